@@ -1,0 +1,8 @@
+use Rattle.concept_unfold.proofs.Names.{among_more}
+use Rattle.concept_unfold.proofs.scope.Scope.declare_operator.Goals as goal
+
+pub invariant_of-self : goal.invariant_of-self
+invariant_of-self c = rw c.in_err-add.ensures.err c.self.invariant
+
+pub invariant_of-self-2 : goal.invariant_of-self-2
+invariant_of-self-2 c = rw c.in_ok-add.ensures.ok (among_more c.self.inside.variables c.self.inside.names c.args.name.now c.self.invariant)

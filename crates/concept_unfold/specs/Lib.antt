@@ -1,0 +1,5 @@
+pub mod Declarations
+pub mod ConceptRules
+pub mod UnfoldingRules
+pub mod Unfolded
+pub mod Answers

@@ -1,0 +1,76 @@
+ghost use Rattle.std.specs.Prelude.{◌≡◌, ◌+◌, ◌<◌, ◌≤◌, ◌∷◌, ◌++◌, [], length, Contains, OnOk};
+ghost use Rattle.std.specs.List.{flat_map};
+ghost use Rattle.statement_set.specs.Problem.{empty_task};
+ghost use Rattle.concept_unfold.specs.Declarations.{texts, variables, all_variables};
+ghost use Rattle.concept_unfold.specs.ConceptRules.{AreNew, AreKnown, UsesKnown, AllFollow};
+ghost use Rattle.concept_unfold.specs.UnfoldingRules.{statements_in, KeepsLimits};
+ghost use Rattle.concept_unfold.specs.Unfolded.{plain_statement, statements_of};
+
+use crate::numbers::{var_of, vars_of};
+use priz_base::NoMem;
+use sqlite_items::Items;
+use statement_set::{Problem, Statement};
+use std::alloc::Global;
+use utopist_parser::{Item, Name};
+
+/// Adds the variables and the statements of items to an empty problem.
+pub(crate) fn add_items(alloc: Global, problem: &mut Problem, items: &[Item]) -> Result<(), NoMem>
+    requires empty { problem.old ≡ empty_task }
+    requires rules { AllFollow [] [] items.now }
+    requires limits { KeepsLimits items.now }
+    ensures { OnOk result (problem.new ≡ record empty_task { names = all_variables items.now; statements = flat_map (statements_of (all_variables items.now)) items.now }) }
+{
+    for item in items {
+        add_item(alloc, problem, item)?;
+    }
+    Ok(())
+}
+
+fn add_item(alloc: Global, problem: &mut Problem, item: &Item) -> Result<(), NoMem>
+    requires fresh { AreNew problem.old.names (variables item.now) }
+    requires known { UsesKnown problem.old.names item.now }
+    requires names { length problem.old.names + length (variables item.now) ≤ 1024 }
+    requires statements { length problem.old.statements + statements_in item.now ≤ 4096 }
+    ensures { OnOk result (problem.new ≡ record problem.old { names = problem.old.names ++ variables item.now; statements = problem.old.statements ++ statements_of problem.old.names item.now }) }
+{
+    match item {
+        Item::Var { names } => add_variables(problem, names.as_slice()),
+        Item::Rel { inputs, output, .. } => {
+            add_statement(alloc, problem, inputs.as_slice(), output)
+        }
+    }
+}
+
+fn add_variables(problem: &mut Problem, names: &[Name]) -> Result<(), NoMem>
+    requires fresh { AreNew problem.old.names (texts names.now) }
+    requires room { length problem.old.names + length names.now ≤ 1024 }
+    ensures { OnOk result (problem.new ≡ record problem.old { names = problem.old.names ++ texts names.now }) }
+{
+    for name in names {
+        problem.add_var(name.text())?;
+    }
+    Ok(())
+}
+
+fn add_statement(
+    alloc: Global,
+    problem: &mut Problem,
+    inputs: &[Name],
+    output: &Name,
+) -> Result<(), NoMem>
+    requires inputs { AreKnown problem.old.names inputs.now }
+    requires output { Contains problem.old.names output.now.text }
+    requires room { length problem.old.statements < 4096 }
+    ensures { OnOk result (problem.new ≡ record problem.old { statements = problem.old.statements ++ plain_statement problem.old.names inputs.now output.now ∷ [] }) }
+{
+    problem.is_well_formed();
+    let inputs = vars_of(alloc, problem, inputs)?;
+    let output = var_of(problem, output);
+    let subs = Items::new(alloc);
+    problem.add_statement(Statement {
+        inputs,
+        subs,
+        output,
+    })?;
+    Ok(())
+}

@@ -1,0 +1,8 @@
+//! Worlds of finite Kripke models.
+#![tactic(auto)]
+
+#[cfg(test)]
+mod tests;
+mod worlds;
+
+pub use worlds::Worlds;

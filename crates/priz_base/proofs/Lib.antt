@@ -1,0 +1,6 @@
+pub mod Deciding
+pub mod Members
+pub mod Loops
+pub mod Words
+pub mod Within
+pub mod More

@@ -1,0 +1,31 @@
+-- The line that says why there is no report.
+use Rattle.std.specs.Prelude.{ℕ, List, [], ◌∷◌, ◌++◌, codes, decimal}
+use Rattle.std.specs.List.{flat_map}
+use denote.Bor.{Bor}
+use Rattle.priz_base.specs.declared.place.Place.{Place}
+use Rattle.priz_cli.specs.declared.outcome.Outcome.{Outcome}
+use Rattle.priz_cli.specs.declared.outcome.Outcome.TheVariants as outcome
+use Rattle.priz_cli.specs.declared.outcome.Refusal.{Refusal}
+use Rattle.priz_cli.specs.declared.outcome.Refusal.TheVariants as refusal
+
+-- pieces one after another
+abbrev pub joined : List (Bor (List ℕ)) → List ℕ
+joined pieces = flat_map (λ (p : Bor (List ℕ)). p.now) pieces
+
+-- what is wrong at a place
+abbrev pub placed_text : Place → List ℕ → List ℕ
+placed_text p what =
+    codes "priz: line " ++ (decimal p.line ++ (codes ", column " ++ (decimal p.col ++ (codes ": " ++ (what ++ codes "\n")))))
+
+-- why an input is refused
+abbrev pub refusal_text : Refusal → List ℕ
+refusal_text (refusal.Expected p) = placed_text p (codes "unexpected token")
+
+-- the message of an outcome; a report has none
+abbrev pub message_of : Outcome → List ℕ
+message_of (outcome.Solved answers) = []
+message_of outcome.Usage = codes "priz: usage: priz MODE [COUNT] [--budget N] [--turns N] [--explain] [--code]\n"
+message_of (outcome.Refused r) = refusal_text r
+message_of outcome.ReadFault = codes "priz: read fault\n"
+message_of outcome.WriteFault = codes "priz: write fault\n"
+message_of outcome.NoMem = codes "priz: out of memory\n"

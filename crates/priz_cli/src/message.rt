@@ -1,0 +1,66 @@
+ghost use Rattle.std.specs.Prelude.{◌≡◌, ◌≤◌, false, IsTrue};
+ghost use Rattle.std.specs.Io.KnownBytes.{Appends};
+ghost use Rattle.priz_base.specs.Faults.{Rose};
+ghost use Rattle.priz_base.specs.Writing.{WritesPart};
+ghost use Rattle.priz_cli.specs.Messages.{message_of, placed_text, joined};
+
+use crate::outcome::{Outcome, Refusal};
+use itoa::Buffer;
+use priz_base::{Place, Sink, write_all};
+
+/// Writes the line that says why there is no report; for a report none is written.
+pub fn message<K: Sink>(outcome: &Outcome, sink: &mut K) -> bool
+    ensures whole { IsTrue result → Appends (K.written sink.old) (K.written sink.new) (message_of outcome.now) }
+    ensures part { result ≡ false → WritesPart (K.written sink.old) (K.written sink.new) (message_of outcome.now) }
+    ensures later { K.faults sink.old ≤ K.faults sink.new }
+    ensures fault { result ≡ false → Rose (K.faults sink.old) (K.faults sink.new) }
+{
+    match outcome {
+        Outcome::Solved(_) => write_all(sink, b""),
+        Outcome::Usage => write_all(sink, USAGE),
+        Outcome::Refused(Refusal::Expected(place)) => {
+            write_placed(*place, b"unexpected token", sink)
+        }
+        Outcome::ReadFault => write_all(sink, b"priz: read fault\n"),
+        Outcome::WriteFault => write_all(sink, b"priz: write fault\n"),
+        Outcome::NoMem => write_all(sink, b"priz: out of memory\n"),
+    }
+}
+
+const USAGE: &[u8] =
+    b"priz: usage: priz MODE [COUNT] [--budget N] [--turns N] [--explain] [--code]\n";
+
+// What is wrong at a place.
+fn write_placed<K: Sink>(place: Place, what: &[u8], sink: &mut K) -> bool
+    ensures whole { IsTrue result → Appends (K.written sink.old) (K.written sink.new) (placed_text place what.now) }
+    ensures part { result ≡ false → WritesPart (K.written sink.old) (K.written sink.new) (placed_text place what.now) }
+    ensures later { K.faults sink.old ≤ K.faults sink.new }
+    ensures fault { result ≡ false → Rose (K.faults sink.old) (K.faults sink.new) }
+{
+    let mut line = Buffer::new();
+    let mut column = Buffer::new();
+    let pieces = [
+        b"priz: line ".as_slice(),
+        line.format(place.line).as_bytes(),
+        b", column ".as_slice(),
+        column.format(place.col).as_bytes(),
+        b": ".as_slice(),
+        what,
+        b"\n".as_slice(),
+    ];
+    write_pieces(&pieces, sink)
+}
+
+fn write_pieces<K: Sink>(pieces: &[&[u8]], sink: &mut K) -> bool
+    ensures whole { IsTrue result → Appends (K.written sink.old) (K.written sink.new) (joined pieces.now) }
+    ensures part { result ≡ false → WritesPart (K.written sink.old) (K.written sink.new) (joined pieces.now) }
+    ensures later { K.faults sink.old ≤ K.faults sink.new }
+    ensures fault { result ≡ false → Rose (K.faults sink.old) (K.faults sink.new) }
+{
+    for piece in pieces {
+        if !write_all(sink, piece) {
+            return false;
+        }
+    }
+    true
+}

@@ -1,0 +1,98 @@
+ghost use Rattle.std.specs.Prelude.{◌≡◌, ◌≢◌, ◌≤◌, ◌↔◌, IfSome};
+ghost use Rattle.priz_base.specs.Faults.{Rose};
+ghost use Rattle.utopist_parser.specs.declared.tree.File.{File};
+ghost use Rattle.priz_cli.specs.Words.{IsSolve};
+ghost use Rattle.priz_cli.specs.Accepted.{Accepts};
+ghost use Rattle.priz_cli.specs.Outcomes.{Leaves, RunLeaves, IsAnswered};
+ghost use Rattle.priz_cli.specs.Steps.{AcceptedOf};
+
+use crate::fault::Fault;
+use crate::input::file_of;
+use crate::message::message;
+use crate::outcome::{Outcome, Refusal};
+use crate::solution::{Solution, solution_of};
+use crate::words::is_solve;
+use priz_base::{Place, ReadStop, Sink, Source, read_all, write_all};
+use std::alloc::Global;
+
+/// The whole program: does what the words ask for, and then writes the message of the outcome.
+pub fn run<S: Source, K: Sink>(
+    alloc: Global,
+    words: &[String],
+    source: &mut S,
+    sink: &mut K,
+) -> Outcome
+    ensures outcome { RunLeaves result (S.left source.old) (S.left source.new) (K.written sink.old) (K.written sink.new) (K.faults sink.old) (K.faults sink.new) }
+    ensures usage { result ≡ Outcome.Usage ↔ ¬ IsSolve words.now }
+    ensures untouched { result ≡ Outcome.Usage → S.faults source.new ≡ S.faults source.old }
+    ensures read { result ≡ Outcome.ReadFault → Rose (S.faults source.old) (S.faults source.new) }
+    ensures later_source { S.faults source.old ≤ S.faults source.new }
+    ensures later_sink { K.faults sink.old ≤ K.faults sink.new }
+    ensures complete { IsSolve words.now → ¬ Rose (S.faults source.old) (S.faults source.new) → ¬ Rose (K.faults sink.old) (K.faults sink.new) → IfSome (S.left source.old) (λ bytes. (f : File) → Accepts bytes f → IsAnswered result) }
+{
+    let outcome = priz(alloc, words, source, sink);
+    message(&outcome, sink);
+    outcome
+}
+
+/// Does what the words ask for.
+pub fn priz<S: Source, K: Sink>(
+    alloc: Global,
+    words: &[String],
+    source: &mut S,
+    sink: &mut K,
+) -> Outcome
+    ensures outcome { Leaves result (S.left source.old) (S.left source.new) (K.written sink.old) (K.written sink.new) }
+    ensures usage { result ≡ Outcome.Usage ↔ ¬ IsSolve words.now }
+    ensures untouched { result ≡ Outcome.Usage → (S.faults source.new ≡ S.faults source.old) × (K.faults sink.new ≡ K.faults sink.old) }
+    ensures read { result ≡ Outcome.ReadFault → Rose (S.faults source.old) (S.faults source.new) }
+    ensures write { result ≡ Outcome.WriteFault → Rose (K.faults sink.old) (K.faults sink.new) }
+    ensures later_source { S.faults source.old ≤ S.faults source.new }
+    ensures later_sink { K.faults sink.old ≤ K.faults sink.new }
+    ensures complete { IsSolve words.now → ¬ Rose (S.faults source.old) (S.faults source.new) → ¬ Rose (K.faults sink.old) (K.faults sink.new) → IfSome (S.left source.old) (λ bytes. (f : File) → Accepts bytes f → IsAnswered result) }
+{
+    if !is_solve(words) {
+        return Outcome::Usage;
+    }
+    solve(alloc, source, sink)
+}
+
+// The first byte's place.
+const START: Place = Place {
+    at: 0,
+    line: 1,
+    col: 1,
+};
+
+fn solve<S: Source, K: Sink>(alloc: Global, source: &mut S, sink: &mut K) -> Outcome
+    ensures outcome { Leaves result (S.left source.old) (S.left source.new) (K.written sink.old) (K.written sink.new) }
+    ensures mode { result ≢ Outcome.Usage }
+    ensures read { result ≡ Outcome.ReadFault → Rose (S.faults source.old) (S.faults source.new) }
+    ensures write { result ≡ Outcome.WriteFault → Rose (K.faults sink.old) (K.faults sink.new) }
+    ensures later_source { S.faults source.old ≤ S.faults source.new }
+    ensures later_sink { K.faults sink.old ≤ K.faults sink.new }
+{
+    let bytes = match read_all(alloc, source) {
+        Ok(bytes) => bytes,
+        Err(ReadStop::ReadFault) => return Outcome::ReadFault,
+        Err(ReadStop::TooLong) => return Outcome::Refused(Refusal::Expected(START)),
+        Err(ReadStop::NoMem) => return Outcome::NoMem,
+    };
+    let Solution { answers, report } = match solution_of_bytes(alloc, &bytes) {
+        Ok(solution) => solution,
+        Err(Fault::Refused) => return Outcome::Refused(Refusal::Expected(START)),
+        Err(Fault::NoMem) => return Outcome::NoMem,
+    };
+    if write_all(sink, &report) {
+        Outcome::Solved(answers)
+    } else {
+        Outcome::WriteFault
+    }
+}
+
+fn solution_of_bytes(alloc: Global, bytes: &[u8]) -> Result<Solution, Fault>
+    ensures { AcceptedOf bytes.now result }
+{
+    let file = file_of(alloc, bytes)?;
+    solution_of(alloc, &file)
+}

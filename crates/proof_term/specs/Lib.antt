@@ -1,0 +1,4 @@
+pub mod Proof
+pub mod Coding
+pub mod Plain
+pub mod Falls

@@ -1,0 +1,75 @@
+-- Problems as their views show them.
+use Rattle.std.specs.Prelude.{◌≡◌, ◌≢◌, ℕ, ◌<◌, ◌≤◌, length, List, [], ◌∷◌, map, All, slice_get, Some}
+use Rattle.std.specs.List.{AllPairs, sum_by}
+use Rattle.std.specs.Option.{option_map_or}
+use Rattle.statement_set.specs.declared.subtask.Subtask.{Subtask}
+use Rattle.statement_set.specs.declared.statement.Statement.{Statement}
+use Rattle.statement_set.specs.declared.given.Given.{Given}
+
+-- the variables' names as bytes, the statements, and the goal: what is given, and what is wanted
+pub record Task : Type 0 where
+  pub names : List (List ℕ)
+  pub statements : List Statement
+  pub givens : List Given
+  pub wants : List ℕ
+
+-- a problem with nothing in it
+abbrev pub empty_task : Task
+empty_task = record { names = []; statements = []; givens = []; wants = [] }
+
+-- how many variables there are
+abbrev pub var_count : Task → ℕ
+var_count p = length p.names
+
+-- the given variables
+abbrev pub given_vars : Task → List ℕ
+given_vars p = map (λ g. g.var) p.givens
+
+-- what a program for the subtask gives
+abbrev pub results : Subtask → List ℕ
+results u = u.output ∷ []
+
+-- the subtasks of the statement of that number
+abbrev pub subtasks_of : Task → ℕ → List Subtask
+subtasks_of p n = option_map_or (λ s. s.subs) (slice_get p.statements n) []
+
+-- how many subtasks all statements have together
+abbrev pub subtask_count : Task → ℕ
+subtask_count p = sum_by (λ s. length s.subs) p.statements
+
+-- s is the problem's statement of that number
+abbrev pub IsStatementOf : Task → ℕ → Statement → Type 0
+IsStatementOf p n s = slice_get p.statements n ≡ Some s
+
+-- each number is one of n variables
+abbrev pub AreVars : ℕ → List ℕ → Type 0
+AreVars n vs = All (λ v. v < n) vs
+
+-- a subtask over n variables has inputs, and none twice
+pub record IsSubtaskOver (n : ℕ) (u : Subtask) : Type 0 where
+  pub inputs : AreVars n u.inputs
+  pub some : u.inputs ≢ []
+  pub distinct : AllPairs (λ x y. x ≢ y) u.inputs
+  pub output : u.output < n
+
+-- a statement over n variables
+pub record IsStatementOver (n : ℕ) (s : Statement) : Type 0 where
+  pub inputs : AreVars n s.inputs
+  pub subs : All (IsSubtaskOver n) s.subs
+  pub output : s.output < n
+
+-- names are distinct, each number that stands in the problem is a variable, none is given twice, and the limits are kept
+pub record IsWellFormed (p : Task) : Type 0 where
+  pub names : AllPairs (λ x y. x ≢ y) p.names
+  pub few_names : length p.names ≤ 1024
+  pub statements : All (IsStatementOver (var_count p)) p.statements
+  pub few_statements : length p.statements ≤ 4096
+  pub few_subtasks : subtask_count p ≤ 255
+  pub givens : AreVars (var_count p) (given_vars p)
+  pub given_once : AllPairs (λ x y. x ≢ y) (given_vars p)
+  pub wants : AreVars (var_count p) p.wants
+
+-- a problem that can be solved or refuted has a variable and a want
+pub record IsWhole (p : Task) : Type 0 where
+  pub var : 1 ≤ var_count p
+  pub want : p.wants ≢ []

@@ -1,0 +1,20 @@
+mod Choice
+mod ComputeRules
+mod FileRules
+mod Fixed
+mod Gap
+mod ItemRules
+mod Laws
+mod Longest
+mod Loops
+mod NameRules
+mod Recast
+mod Repeat
+mod Rules
+mod Scan
+mod Sequence
+mod Spellings
+mod Starts
+mod Tokens
+pub mod Wants
+mod Whole

@@ -1,0 +1,140 @@
+-- One step after another keeps the laws.
+use Rattle.std.proofs.Common.{◌≡◌, ℕ, List, [], ◌∷◌, ◌++◌, Option, Ok, Err, refl, sym, ap, subst, ◌∙◌, append_assoc, inl, inr}
+use Rattle.utopist_parser.specs.Symbols.{Symbol}
+use Rattle.utopist_parser.specs.Steps.{Why, expected, deep, Fault, StepOf, ◌>>=◌, give, next}
+use Rattle.utopist_parser.proofs.Laws.{reaches_up, AtHead, at_head, Form, Stuck, Further, Took, Blames, Laws, ok_is, then_ok, then_err, same_next}
+
+module _ {X Y : Type 0} (g : Form X) (d : Form Y) where
+  -- one part after another
+  abbrev pub both : Form (X × Y)
+  both = record {
+    spell = λ p. g.spell p.0 ++ d.spell p.1;
+    Fits = λ p M. g.Fits p.0 M × d.Fits p.1 M;
+    grows = λ p m M h f. (g.grows p.0 m M h f.0, d.grows p.1 m M h f.1);
+    Stops = λ p. d.Stops p.1;
+    Enters = g.Enters;
+  }
+
+  module _ {V W : Type 0} (see : X → V) (see_y : X → Y → W) (f : StepOf V) (k : V → StepOf W) (room : ℕ) (a : Laws g see f room) (b : (x : X) → Laws d (see_y x) (k (see x)) room)
+      (enters : (x : X) (o : Option Symbol) → g.Stops x o → d.Enters o)
+      (opens : (x : X) (y : Y) (rest : List Symbol) → d.Stops y (next rest) → g.Stops x (next (d.spell y ++ rest)))
+      (some_y : Y) (some_fits : d.Fits some_y room) where
+    abbrev pub see_both : X × Y → W
+    see_both p = see_y p.0 p.1
+
+    abbrev pub both_at : StepOf W
+    both_at = f >>= k
+
+    then_again : (M : ℕ) (p : X × Y) → g.Fits p.0 M × d.Fits p.1 M → (rest : List Symbol) → d.Stops p.1 (next rest) → both_at M ((g.spell p.0 ++ d.spell p.1) ++ rest) ≡ Ok (see_y p.0 p.1, rest)
+    then_again M p h rest s = ap (both_at M) (append_assoc (g.spell p.0) (d.spell p.1) rest) ∙ rw (a.again M p.0 h.0 (d.spell p.1 ++ rest) (opens p.0 p.1 rest s)) ((b p.0).again M p.1 h.1 rest s)
+
+    then_take : (ts : List Symbol) (v : W × List Symbol) → g.Enters (next ts) → both_at room ts ≡ Ok v → Took both see_both room ts v
+    then_take ts v n e =
+        let x = then_ok (f room ts) (λ p. k p.0 room p.1) v e in
+        let t = a.take ts x.0 n x.1 in
+        let on : k (see t.part) room x.0.1 ≡ Ok v = subst (λ w. k w room x.0.1 ≡ Ok v) (sym t.seen) x.2 in
+        let u = (b t.part).take x.0.1 v (enters t.part _ t.stops) on in
+        record {
+          part = (t.part, u.part);
+          seen = u.seen;
+          parts = t.parts ∙ ap (λ l. g.spell t.part ++ l) u.parts ∙ sym (append_assoc (g.spell t.part) (d.spell u.part) v.1);
+          fits = (t.fits, u.fits);
+          stops = u.stops;
+        }
+
+    first_further : (why : Why) (front : List Symbol) (c : Symbol) → Further g why front c → Further both why front c
+    first_further expected front c h = tt
+    first_further deep front c h = ((h.0, some_y), h.1 ++ d.spell some_y, ap (λ l. l ++ d.spell some_y) h.2 ∙ append_assoc front (c ∷ h.1) (d.spell some_y))
+
+    first_blames : (ts : List Symbol) (e : Fault) → Blames g f room ts e → Blames both both_at room ts e
+    first_blames ts e h = record {
+      front = h.front;
+      wrong = h.wrong;
+      split = h.split;
+      size = h.size;
+      begun = (h.begun, some_y);
+      more = h.more ++ d.spell some_y;
+      fits = (h.fits, some_fits);
+      begins = ap (λ l. l ++ d.spell some_y) h.begins ∙ append_assoc h.front h.more (d.spell some_y);
+      stuck = at_head (Stuck f room e.0 h.front) (Stuck both_at room e.0 h.front) (λ c s. record { fails = λ M r more. rw (s.fails M r more) refl }) h.wrong h.stuck;
+      further = at_head (Further g e.0 h.front) (Further both e.0 h.front) (λ c s. first_further e.0 h.front c s) h.wrong h.further;
+    }
+
+    second_further : (x : X) (why : Why) (front : List Symbol) (c : Symbol) → Further d why front c → Further both why (g.spell x ++ front) c
+    second_further x expected front c h = tt
+    second_further x deep front c h = ((x, h.0), h.1, ap (λ l. g.spell x ++ l) h.2 ∙ sym (append_assoc (g.spell x) front (c ∷ h.1)))
+
+    second_stuck : (x : X) (why : Why) (front wrong : List Symbol) → g.Fits x room → g.Stops x (next (front ++ wrong)) → AtHead wrong (Stuck (k (see x)) room why front) → AtHead wrong (Stuck both_at room why (g.spell x ++ front))
+    second_stuck x why front [] h s i = tt
+    second_stuck x why front (c ∷ cs) h s i = record {
+      fails = λ M r more.
+          ap (both_at M) (append_assoc (g.spell x) front (c ∷ more))
+          ∙ rw (a.again M x (g.grows x room M (reaches_up why room M r) h) (front ++ (c ∷ more)) (subst (g.Stops x) (same_next front c cs more) s)) (i.fails M r more);
+    }
+
+    pub then_laws : Laws both see_both both_at room
+    then_laws = record {
+      again = then_again;
+      take = then_take;
+      blames = λ ts e n h.
+          elim (then_err (f room ts) (λ p. k p.0 room p.1) e h) [
+            | inl bad ↦ first_blames ts e (a.blames ts e n bad)
+            | inr x ↦ second x.0 (a.take ts x.0 n x.1) x.2
+          ];
+    } where
+      second : {ts : List Symbol} {e : Fault} (x : V × List Symbol) → Took g see room ts x → k x.0 room x.1 ≡ Err e → Blames both both_at room ts e
+      second {ts} {e} x t h =
+          let on : k (see t.part) room x.1 ≡ Err e = subst (λ w. k w room x.1 ≡ Err e) (sym t.seen) h in
+          let u = (b t.part).blames x.1 e (enters t.part _ t.stops) on in
+          record {
+            front = g.spell t.part ++ u.front;
+            wrong = u.wrong;
+            split = t.parts ∙ ap (λ l. g.spell t.part ++ l) u.split ∙ sym (append_assoc (g.spell t.part) u.front u.wrong);
+            size = u.size;
+            begun = (t.part, u.begun);
+            more = u.more;
+            fits = (t.fits, u.fits);
+            begins = ap (λ l. g.spell t.part ++ l) u.begins ∙ sym (append_assoc (g.spell t.part) u.front u.more);
+            stuck = second_stuck t.part e.0 u.front u.wrong t.fits (subst (λ l. g.Stops t.part (next l)) u.split t.stops) u.stuck;
+            further = at_head (Further d e.0 u.front) (Further both e.0 (g.spell t.part ++ u.front)) (λ c s. second_further t.part e.0 u.front c s) u.wrong u.further;
+          }
+
+-- ---- the value of a step changed
+
+module _ {X V W : Type 0} (g : Form X) (see : X → V) (h : V → W) (f : StepOf V) (room : ℕ) (a : Laws g see f room) where
+  abbrev pub map_at : StepOf W
+  map_at = f >>= λ v. give (h v)
+
+  map_take : (ts : List Symbol) (v : W × List Symbol) → g.Enters (next ts) → map_at room ts ≡ Ok v → Took g (λ x. h (see x)) room ts v
+  map_take ts v n e =
+      let x = then_ok (f room ts) (λ p. give (h p.0) room p.1) v e in
+      let t = a.take ts x.0 n x.1 in
+      let y = ok_is (h x.0.0, x.0.1) v x.2 in
+      record {
+        part = t.part;
+        seen = ap h t.seen ∙ ap (λ (p : W × List Symbol). p.0) y;
+        parts = t.parts ∙ ap (λ (p : W × List Symbol). g.spell t.part ++ p.1) y;
+        fits = t.fits;
+        stops = subst (λ (p : W × List Symbol). g.Stops t.part (next p.1)) y t.stops;
+      }
+
+  map_blames : (ts : List Symbol) (e : Fault) → g.Enters (next ts) → map_at room ts ≡ Err e → Blames g map_at room ts e
+  map_blames ts e n i =
+      elim (then_err (f room ts) (λ p. give (h p.0) room p.1) e i) [
+        | inl bad ↦ let b = a.blames ts e n bad in record {
+          front = b.front;
+          wrong = b.wrong;
+          split = b.split;
+          size = b.size;
+          begun = b.begun;
+          more = b.more;
+          fits = b.fits;
+          begins = b.begins;
+          stuck = at_head (Stuck f room e.0 b.front) (Stuck map_at room e.0 b.front) (λ c s. record { fails = λ M r more. rw (s.fails M r more) refl }) b.wrong b.stuck;
+          further = b.further;
+        }
+        | inr x ↦ absurd (let z = x.2 in cc)
+      ]
+
+  pub map_laws : Laws g (λ x. h (see x)) map_at room
+  map_laws = record { again = λ M x i rest s. rw (a.again M x i rest s) refl; take = map_take; blames = map_blames }

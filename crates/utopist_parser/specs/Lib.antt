@@ -1,0 +1,14 @@
+pub mod Named
+pub mod Spelling
+pub mod Kinds
+pub mod Characters
+pub mod Gap
+pub mod Lexical
+pub mod Scanning
+pub mod Views
+pub mod Symbols
+pub mod Grammar
+pub mod Forms
+pub mod Steps
+pub mod Reading
+pub mod Answers

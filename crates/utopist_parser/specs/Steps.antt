@@ -1,0 +1,68 @@
+-- Reading in steps, for values of any type.
+use Rattle.std.specs.Prelude.{ℕ, zero, suc, Bool, false, if◌then◌else◌, List, [], ◌∷◌, length, Option, Some, None, Result, Ok, Err}
+use Rattle.utopist_parser.specs.Symbols.{Symbol}
+
+-- why a reading fails: no form goes on with the symbol, or none within the limit on nesting
+pub data Why : Type 0 where
+  expected : Why
+  deep : Why
+
+-- why, and how many symbols are left at the first wrong one
+abbrev pub Fault : Type 0
+Fault = Why × ℕ
+
+-- what was read, and the symbols that are left
+abbrev pub Reading : Type 0 → Type 0
+Reading V = Result (V × List Symbol) Fault
+
+-- a step reads the front of a list of symbols, and nests at most one more than its room
+abbrev pub StepOf : Type 0 → Type 0
+StepOf V = ℕ → List Symbol → Reading V
+
+-- what goes on where nothing failed
+abbrev pub on_ok : {V W : Type 0} → Reading V → (V × List Symbol → Reading W) → Reading W
+on_ok (Ok x) f = f x
+on_ok (Err e) f = Err e
+
+infixl 10 ◌>>=◌
+-- one step after another
+abbrev pub ◌>>=◌ : {V W : Type 0} → StepOf V → (V → StepOf W) → StepOf W
+f >>= k = λ room ts. on_ok (f room ts) (λ p. k p.0 room p.1)
+
+-- nothing more
+abbrev pub give : {V : Type 0} → V → StepOf V
+give v room ts = Ok (v, ts)
+
+-- the next symbol
+abbrev pub next : List Symbol → Option Symbol
+next [] = None
+next (c ∷ cs) = Some c
+
+-- a test of the next symbol, where there is one
+abbrev pub meets : (Symbol → Bool) → Option Symbol → Bool
+meets test None = false
+meets test (Some c) = test c
+
+-- the value of a symbol that was wanted
+abbrev pub token_value : {V : Type 0} → Option V → List Symbol → List Symbol → Reading V
+token_value None ts rest = Err (expected, length ts)
+token_value (Some v) ts rest = Ok (v, rest)
+
+-- one symbol that is wanted
+abbrev pub token_at : {V : Type 0} → (Symbol → Option V) → StepOf V
+token_at want room [] = Err (expected, 0)
+token_at want room (c ∷ cs) = token_value (want c) (c ∷ cs) cs
+
+-- the one or the other, by the next symbol
+abbrev pub choose_at : {V : Type 0} → (Symbol → Bool) → StepOf V → StepOf V → StepOf V
+choose_at begins f k room ts = if meets begins (next ts) then f room ts else k room ts
+
+-- {part}, at most so many, where the next symbol says whether one more begins
+unfoldable pub repeat_fuel : {V : Type 0} → (Symbol → Bool) → StepOf V → ℕ → StepOf (List V)
+repeat_fuel begins f zero room ts = Ok ([], ts)
+repeat_fuel begins f (suc k) room ts =
+    if meets begins (next ts) then on_ok (f room ts) (λ p. on_ok (repeat_fuel begins f k room p.1) (λ q. Ok (p.0 ∷ q.0, q.1))) else Ok ([], ts)
+
+-- {part}
+abbrev pub repeat_at : {V : Type 0} → (Symbol → Bool) → StepOf V → StepOf (List V)
+repeat_at begins f room ts = repeat_fuel begins f (length ts) room ts
