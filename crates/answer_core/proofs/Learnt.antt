@@ -1,5 +1,5 @@
 -- What is known, and the block that gives it, after one more statement.
-use Rattle.std.proofs.Common.{◌≡◌, ◌↔◌, ℕ, ◌<◌, List, [], ◌∷◌, length, Some, sym, subst, ap, ⊎_elim, inl, inr, refl}
+use Rattle.std.proofs.Common.{◌≡◌, ◌↔◌, ℕ, ◌<◌, List, [], ◌∷◌, length, Some, sym, subst, ⊎_elim, inl, inr, refl}
 use Rattle.std.specs.Prelude.{Contains, All, IsSomeAnd, slice_get}
 use Rattle.std.proofs.lemmas.List.Elements.{All-weaker, All-contains, All-contains_itself}
 use Rattle.priz_base.specs.Sets.{Adds, IsWithin}
@@ -7,7 +7,7 @@ use Rattle.priz_base.proofs.More.{some_below}
 use Rattle.priz_base.proofs.Members.{contains_here, contains_there}
 use Rattle.statement_set.specs.declared.statement.Statement.{Statement}
 use Rattle.statement_set.specs.Problem.{Task, var_count, given_vars, AreVars, IsStatementOver, IsWellFormed}
-use Rattle.statement_set.specs.Countermodel.{IsCountermodelFrom, RefutesAlone}
+use Rattle.statement_set.specs.Countermodel.{IsCountermodelFrom}
 use Rattle.statement_set.proofs.Lists.{some_and, all_at, some_lacked}
 use Rattle.statement_set.proofs.Obeys.{one_world}
 use Rattle.proof_term.specs.Proof.{Steps, no_more, proves, push}

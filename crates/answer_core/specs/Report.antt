@@ -1,5 +1,5 @@
 -- The lines that report an answer.
-use Rattle.std.specs.Prelude.{ℕ, List, [], ◌∷◌, ◌++◌, ◌+◌, Bool, true, false, codes, decimal, slice_index_or}
+use Rattle.std.specs.Prelude.{ℕ, List, [], ◌++◌, Bool, true, false, codes, decimal, slice_index_or}
 use Rattle.statement_set.specs.Problem.{Task, var_count}
 use Rattle.cert_text.specs.BlockText.{proof_line}
 use Rattle.cert_text.specs.WorldText.{worlds_line}

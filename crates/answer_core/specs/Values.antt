@@ -1,5 +1,5 @@
 -- What a program's values speak of.
-use Rattle.std.specs.Prelude.{ℕ, ◌<◌}
+use Rattle.std.specs.Prelude.{◌<◌}
 use Rattle.statement_set.specs.Problem.{Task, var_count}
 use Rattle.answer_core.specs.declared.verdict.Values.{Values}
 use Rattle.answer_core.specs.declared.verdict.Values.TheVariants as values

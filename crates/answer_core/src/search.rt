@@ -27,7 +27,7 @@ pub(crate) fn search(alloc: Global, problem: &Problem) -> Result<Found, NoMem>
 {
     problem.is_well_formed();
     let wanted = set_of(problem.wants());
-    let mut closure = Closure::new(problem);
+    let mut closure = Closure::new(alloc, problem)?;
     learn_givens(problem, &mut closure);
     let mut block = Block::new(alloc);
     'learning: while !wanted.is_within(closure.known()) {

@@ -51,17 +51,6 @@ impl VarSet {
         VarSet { words: self.words }
     }
 
-    pub fn has_all(&self, vs: &[Var]) -> bool
-        ensures { IsTrue result ↔ IsWithin vs.now self.now }
-    {
-        for v in vs {
-            if !self.has(*v) {
-                return false;
-            }
-        }
-        true
-    }
-
     pub fn remove(&mut self, v: Var)
         ensures { Removes self.old self.new v }
     {

@@ -1,10 +1,9 @@
-use Rattle.std.proofs.Common.{ℕ, ◌<◌, ◌↔◌, List, ◌∙◌, [], ◌∷◌, sym, subst, ap, refl}
+use Rattle.std.proofs.Common.{ℕ, ◌<◌, ◌↔◌, List, ◌∙◌, sym, subst, ap}
 use Rattle.std.specs.Prelude.{Contains}
 use Rattle.priz_base.specs.Sets.{Adds, IsWithin}
 use Rattle.priz_base.proofs.Deciding.{not_so}
 use Rattle.priz_base.proofs.Members.{within_trans}
-use Rattle.statement_set.specs.Problem.{Task, given_vars, var_count, AreVars}
-use Rattle.statement_set.specs.Countermodel.{IsCountermodelFrom}
+use Rattle.statement_set.specs.Problem.{Task, given_vars, var_count}
 use Rattle.proof_term.specs.Proof.{Steps, proves}
 use Rattle.proof_term.proofs.Pushes.{proves_fewer}
 use Rattle.saturate.specs.Ready.{Progress, ReadyAt}
@@ -72,7 +71,7 @@ learning-preserved c =
       given = kept_within (given_vars p) known new out adds c.learning.invariant.given;
       vars = vars_more p known new n out ready c.output.ensures (var_count p) c.learning.invariant.vars (output_below p known new n out ready c.output.ensures c.is_well_formed.ensures) adds;
       proof = let h = proof_more p known new n out ready c.output.ensures (given_vars p) c.learning.block c.learning.invariant.proof adds in
-          rw (c.in_ok-push.ensures.ok, c.new.ensures) h;
+          rw (c.in_ok-push.ensures.ok, c.new-in-learning.ensures) h;
     }
 
 pub returns : goal.returns

@@ -1,4 +1,4 @@
-use Rattle.std.proofs.Common.{ℕ, List, ◌↔◌, sym, subst}
+use Rattle.std.proofs.Common.{ℕ, List, ◌↔◌, subst}
 use Rattle.std.specs.Prelude.{Contains}
 use Rattle.std.proofs.lemmas.List.{take_all}
 use Rattle.priz_base.proofs.More.{take_at, same_members}

@@ -1,13 +1,24 @@
-use Rattle.priz_base.proofs.Deciding.{never, not_so, opposite}
+use Rattle.std.proofs.Common.{arith}
+use Rattle.priz_base.proofs.Within.{within_end}
+use Rattle.priz_base.proofs.Deciding.{never, opposite}
 use Rattle.saturate.proofs.closure.is_ready.Goals as goal
 
-pub returns-then-not-has_all : goal.returns-then-not-has_all
-returns-then-not-has_all c = never (λ r. not_so c.has_all.result (rw c.as_slice.ensures at c.has_all.ensures) c.if-not-has_all.true r.inputs)
+pub known_from-requires : goal.known_from-requires
+known_from-requires c = rw (← c.as_slice-inputs.ensures) at c.requires
 
-pub returns : goal.returns
-returns c =
+pub returns-then-met-inputs-clause-met : goal.returns-then-met-inputs-clause-met
+returns-then-met-inputs-clause-met c = rw c.as_slice-inputs.ensures at c.known_from.ensures.known
+
+pub returns-then-met-inputs-clause-ready : goal.returns-then-met-inputs-clause-ready
+returns-then-met-inputs-clause-ready c = never (λ r. absurd (omega (arith, rw c.as_slice-inputs.ensures at c.if-met-inputs.true, (rw c.as_slice-inputs.ensures at c.known_from.ensures.all) r.inputs)))
+
+pub returns-clause-met : goal.returns-clause-met
+returns-clause-met c = rw c.as_slice-inputs.ensures at c.known_from.ensures.known
+
+pub returns-clause-ready : goal.returns-clause-ready
+returns-clause-ready c =
     opposite c.has.result c.has.ensures (λ k r. r.output k) (λ no_output. record {
       plain = c.is_empty.ensures.0 c.if-not-is_empty.false;
-      inputs = (rw c.as_slice.ensures at c.has_all.ensures).0 c.if-not-has_all.false;
+      inputs = within_end c.args.s.now.inputs c.known_from.result c.args.known.now (rw c.as_slice-inputs.ensures at c.if-met-inputs.false) (rw c.as_slice-inputs.ensures at c.known_from.ensures.known);
       output = no_output;
     })
