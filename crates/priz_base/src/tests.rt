@@ -1,8 +1,11 @@
 // What no clause says: the happy path of each call that takes memory, and the streams over readers and writers.
+ghost use Rattle.std.specs.Prelude.{◌≤◌};
+
 use crate::{
-    MAX_INPUT, MemSink, Pull, Push, Sink, Source, StdSink, StdSource, SureSource, read_all,
-    write_all,
+    MAX_INPUT, MemSink, MemSource, Pull, Push, ReadStop, Sink, Source, StdSink, StdSource,
+    SureSink, SureSource, read_all, write_all,
 };
+use std::alloc::Global;
 use std::io;
 use std::io::{Read, Write};
 use std::test::Fail;
@@ -27,6 +30,33 @@ impl Write for Broken {
     }
 }
 
+/// What is read of five bytes where the call `at` fails.
+fn read_five(alloc: Global, most: usize, at: u64) -> Result<Vec<u8>, ReadStop>
+    requires { 1 ≤ most }
+{
+    let fails = [at];
+    let mut source = MemSource::new(b"abcde", most, &fails);
+    read_all(alloc, &mut source)
+}
+
+#[test]
+fn reads_whole_unless_a_call_fails(rt: HostRuntime) -> Result<(), Fail> {
+    let alloc = rt.alloc();
+    // Five calls give one byte each, and the call 5 finds the end.
+    for at in [0, 4, 5] {
+        assert!(rt; matches!(read_five(alloc, 1, at), Err(ReadStop::ReadFault)));
+    }
+    let read = read_five(alloc, 1, 6).expect(&rt, "no call fails");
+    assert_eq!(rt; read.as_slice(), b"abcde".as_slice());
+    // The call 0 gives all the bytes, and the call 1 finds the end.
+    for at in [0, 1] {
+        assert!(rt; matches!(read_five(alloc, 10, at), Err(ReadStop::ReadFault)));
+    }
+    let read = read_five(alloc, 10, 2).expect(&rt, "no call fails");
+    assert_eq!(rt; read.as_slice(), b"abcde".as_slice());
+    Ok(())
+}
+
 #[test]
 fn reads_and_writes_whole(rt: HostRuntime) -> Result<(), Fail> {
     let alloc = rt.alloc();
@@ -38,6 +68,8 @@ fn reads_and_writes_whole(rt: HostRuntime) -> Result<(), Fail> {
     assert!(rt; write_all(&mut sink, b"abcde"));
     assert!(rt; !write_all(&mut sink, b"f"));
     assert_eq!(rt; sink.written(), b"abcde".as_slice());
+    let mut sink = SureSink::new();
+    assert!(rt; write_all(&mut sink, b"abcde"));
     Ok(())
 }
 
