@@ -1,8 +1,11 @@
+pub mod Passing
 pub mod Names
 pub mod Relations
-pub mod Goals
 pub mod Places
-pub mod Once
+pub mod Outlines
 pub mod Room
 pub mod Progress
 pub mod Whole
+pub mod Follows
+pub mod Once
+pub mod Stages

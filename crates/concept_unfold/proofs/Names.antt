@@ -1,15 +1,13 @@
 -- Names that are declared one after another.
-use Rattle.std.proofs.Common.{◌≡◌, ℕ, ◌<◌, List, [], ◌∷◌, ◌++◌, length, get_or, drop, subst}
+use Rattle.std.proofs.Common.{◌≡◌, ℕ, ◌+◌, ◌<◌, List, [], ◌∷◌, ◌++◌, length, get_or, drop, subst, sym, ap, ◌∙◌}
 use Rattle.std.specs.Prelude.{Contains, All}
 use Rattle.std.proofs.lemmas.List.Elements.{All-weaker, All-push, Contains-append_left, Contains-push}
-use Rattle.priz_base.proofs.More.{drop_at}
+use Rattle.priz_base.proofs.More.{drop_at, moved_on}
 use Rattle.utopist_parser.specs.Named.{Named}
-use Rattle.utopist_parser.specs.declared.tree.Item.{Item}
-use Rattle.concept_unfold.specs.declared.fault.UnfoldFault.{UnfoldFault}
-use Rattle.concept_unfold.specs.declared.fault.UnfoldFault.TheVariants as fault
-use Rattle.concept_unfold.specs.Declarations.{texts}
-use Rattle.concept_unfold.specs.ConceptRules.{AreNew, FollowsAfter, AllFollow}
-use Rattle.concept_unfold.specs.Answers.{Breaks}
+use Rattle.concept_unfold.specs.declared.fault.Rule.{Rule}
+use Rattle.concept_unfold.specs.Rows.{is_new, AllHold}
+use Rattle.concept_unfold.specs.ConceptRules.{at_name}
+use Rattle.concept_unfold.proofs.Passing.{first_holds}
 
 -- what is among the names is among more names
 pub among_more : (xs ys : List (List ℕ)) (n : List ℕ) → All (Contains ys) xs → All (Contains (ys ++ n ∷ [])) xs
@@ -19,15 +17,12 @@ among_more xs ys n h = All-weaker (Contains ys) (Contains (ys ++ n ∷ [])) (λ 
 pub among_both : (xs ys : List (List ℕ)) (n : List ℕ) → All (Contains ys) xs → All (Contains (ys ++ n ∷ [])) (xs ++ n ∷ [])
 among_both xs ys n h = All-push (Contains (ys ++ n ∷ [])) xs n (among_more xs ys n h) (Contains-push ys n)
 
--- where a rule is refused, so is one that it follows from
-pub refused : (e : UnfoldFault) (P Q : Type 0) → (Q → P) → Breaks P e → Breaks Q e
-refused fault.Model P Q f h = λ q. h (f q)
-refused fault.NoMem P Q f h = tt
+-- a name that was found new is none of the names
+pub is_fresh : (names : List (List ℕ)) (n : Named) (r : Rule) (text : List ℕ) → text ≡ n.text → AllHold (at_name n r (is_new names n.text) ∷ []) → ¬ Contains names text
+is_fresh names n r text same h =
+    subst (λ (t : List ℕ). ¬ Contains names t) (sym same) (first_holds (at_name n r (is_new names n.text)) [] h)
 
-pub head_new : (earlier : List (List ℕ)) (ns : List Named) (i : ℕ) (n : Named) → i < length ns → n ≡ get_or ns i n → AreNew earlier (texts (drop i ns)) → AreNew earlier (n.text ∷ [])
-head_new earlier ns i n lt is h =
-    let r = subst (λ (x : List Named). AreNew earlier (texts x)) (drop_at ns i n lt is) h in (r.0, tt)
-
-pub head_follows : (names vars : List (List ℕ)) (items : List Item) (i : ℕ) (x : Item) → i < length items → x ≡ get_or items i x → AllFollow names vars (drop i items) → FollowsAfter names vars x
-head_follows names vars items i x lt is h =
-    let r = subst (λ (y : List Item). AllFollow names vars y) (drop_at items i x lt is) h in r.0
+-- what an element gives moves from what is left to what was gathered
+pub gathered_more : {X Y : Type 0} (f : List X → List Y) (xs : List X) (i : ℕ) (x : X) (old new piece whole : List Y) → i < length xs → x ≡ get_or xs i x → f (x ∷ drop (i + 1) xs) ≡ piece ++ f (drop (i + 1) xs) → old ++ f (drop i xs) ≡ whole → new ≡ old ++ piece → new ++ f (drop (i + 1) xs) ≡ whole
+gathered_more f xs i x old new piece whole lt is opens so_far e =
+    moved_on old new piece (f (drop (i + 1) xs)) whole (ap (λ ys. old ++ ys) (sym (ap f (drop_at xs i x lt is) ∙ opens)) ∙ so_far) e

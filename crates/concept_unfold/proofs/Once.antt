@@ -1,26 +1,19 @@
 -- What is given, each variable once.
-use Rattle.std.proofs.Common.{◌≡◌, ◌≢◌, ◌↔◌, ℕ, ◌+◌, ◌<◌, List, [], ◌∷◌, ◌++◌, length, get_or, take, map, refl, sym, ap, ◌∙◌, arith}
+use Rattle.std.proofs.Common.{◌≡◌, ◌↔◌, ℕ, ◌+◌, ◌<◌, List, [], ◌∷◌, ◌++◌, length, get_or, take, map, refl, sym, ap, ◌∙◌, subst, ⊎_elim}
 use Rattle.std.specs.Prelude.{Contains}
-use Rattle.std.specs.List.{AllPairs}
-use Rattle.std.proofs.lemmas.List.{length-take, length-map, get_or-map, get_or-take, map-append}
+use Rattle.std.specs.List.{position_or_len}
+use Rattle.std.specs.Str.{bytes_eq}
+use Rattle.std.proofs.lemmas.List.{map-append}
+use Rattle.std.proofs.lemmas.List.Elements.{All-head, All-tail, All-take}
 use Rattle.priz_base.specs.Sets.{Adds}
 use Rattle.priz_base.proofs.More.{map_more, same_members}
+use Rattle.priz_base.proofs.Members.{contains_here, contains_there, contains_cases, contains_none}
+use Rattle.utopist_parser.specs.Named.{Named}
 use Rattle.statement_set.specs.declared.given.Given.{Given}
 use Rattle.statement_set.specs.Problem.{Task}
-use Rattle.concept_unfold.specs.Unfolded.{given_of}
-
--- an element whose number came before
-pub repeated : {X : Type 0} (f : X → ℕ) (xs : List X) (i : ℕ) (x : X) → i < length xs → x ≡ get_or xs i x → Contains (map f (take i xs)) (f x) → AllPairs (λ a b. a ≢ b) (map f xs) → ⊥
-repeated f xs i x lt is (k, l, e) h =
-    let len = length-map (take i xs) f in
-    let short = length-take i xs in
-    let before : k < i = omega arith in
-    let all = length-map xs f in
-    let inside : k < length xs = omega arith in
-    let taken : k < length (take i xs) = omega arith in
-    h k i (f x) before (omega arith)
-    (get_or-map f xs k x (f x) inside ∙ ap f (sym (get_or-take i xs k x before)) ∙ sym (get_or-map f (take i xs) k x (f x) taken) ∙ e
-    ∙ ap f is ∙ sym (get_or-map f xs i x (f x) lt))
+use Rattle.concept_unfold.specs.Declarations.{texts}
+use Rattle.concept_unfold.specs.Unfolded.{AreKnown, number, given_of}
+use Rattle.concept_unfold.proofs.Places.{same_name, known_at}
 
 -- the variables of what is given
 pub given_numbers_are : (vs : List ℕ) → map (λ (g : Given). g.var) (map given_of vs) ≡ vs
@@ -42,3 +35,40 @@ givens_more f xs i x old new v lt is before same e =
 pub seen_more : (seen new : List ℕ) (old : List Given) (v : ℕ) → Adds seen new v → ((n : ℕ) → Contains seen n ↔ Contains (map (λ (g : Given). g.var) old) n) → (n : ℕ) → Contains new n ↔ Contains (map (λ (g : Given). g.var) (old ++ given_of v ∷ [])) n
 seen_more seen new old v adds same n =
     let e = map-append (λ (g : Given). g.var) old (given_of v ∷ []) in rw e (same_members seen new (map (λ (g : Given). g.var) old) v adds same n)
+
+named_before : (vars : List (List ℕ)) (ns : List Named) (n : Named) → AreKnown vars ns → Contains vars n.text → Contains (map (number vars) ns) (number vars n) → Contains (texts ns) n.text
+named_before vars [] n known here c = absurd (contains_none (number vars n) c)
+named_before vars (m ∷ ns) n known here c =
+    ⊎_elim
+    (λ e. subst (Contains (m.text ∷ texts ns)) (same_name vars m n (All-head (λ (x : Named). Contains vars x.text) m ns known) here e) (contains_here m.text (texts ns)))
+    (λ h. contains_there m.text (texts ns) n.text (named_before vars ns n (All-tail (λ (x : Named). Contains vars x.text) m ns known) here h))
+    (contains_cases (number vars m) (map (number vars) ns) (number vars n) c)
+
+numbered_before : (vars : List (List ℕ)) (ns : List Named) (n : Named) → Contains (texts ns) n.text → Contains (map (number vars) ns) (number vars n)
+numbered_before vars [] n c = absurd (contains_none n.text c)
+numbered_before vars (m ∷ ns) n c =
+    ⊎_elim
+    (λ e. subst (Contains (number vars m ∷ map (number vars) ns)) (ap (λ t. position_or_len (bytes_eq t) vars) e) (contains_here (number vars m) (map (number vars) ns)))
+    (λ h. contains_there (number vars m) (map (number vars) ns) (number vars n) (numbered_before vars ns n h))
+    (contains_cases m.text (texts ns) n.text c)
+
+module _ (vars : List (List ℕ)) (ns : List Named) (i : ℕ) (n : Named) (old : List Given) (v : ℕ) where
+  -- a variable that was given was given by its name
+  pub given_before : i < length ns → n ≡ get_or ns i n → AreKnown vars ns → old ≡ map given_of (map (number vars) (take i ns)) → v ≡ number vars n → Contains (map (λ (g : Given). g.var) old) v → Contains (texts (take i ns)) n.text
+  given_before lt is known before same c =
+      let numbers = ap (map (λ (g : Given). g.var)) before ∙ given_numbers_are (map (number vars) (take i ns)) in
+      named_before vars (take i ns) n (All-take (λ (x : Named). Contains vars x.text) i ns known) (known_at vars ns i n lt is known)
+      (subst (λ (xs : List ℕ). Contains xs (number vars n)) numbers (subst (Contains (map (λ (g : Given). g.var) old)) same c))
+
+  -- the name of a variable that was not given is new
+  pub not_given_before : old ≡ map given_of (map (number vars) (take i ns)) → v ≡ number vars n → ¬ Contains (map (λ (g : Given). g.var) old) v → ¬ Contains (texts (take i ns)) n.text
+  not_given_before before same fresh = λ c.
+      let numbers = ap (map (λ (g : Given). g.var)) before ∙ given_numbers_are (map (number vars) (take i ns)) in
+      fresh (subst (Contains (map (λ (g : Given). g.var) old)) (sym same) (subst (λ (xs : List ℕ). Contains xs (number vars n)) (sym numbers) (numbered_before vars (take i ns) n c)))
+
+-- at first nothing is given
+pub nothing_seen : (seen : List ℕ) (old : List Given) (n : ℕ) → seen ≡ [] → old ≡ [] → Contains seen n ↔ Contains (map (λ (g : Given). g.var) old) n
+nothing_seen seen old n none empty = (
+  λ c. absurd (contains_none n (subst (λ (xs : List ℕ). Contains xs n) none c)),
+  λ c. absurd (contains_none n (subst (λ (gs : List Given). Contains (map (λ (g : Given). g.var) gs) n) empty c)),
+)

@@ -1,7 +1,7 @@
 -- The number of a variable.
-use Rattle.std.proofs.Common.{◌≡◌, ◌≢◌, ℕ, zero, suc, ◌+◌, ◌<◌, Bool, true, false, List, [], ◌∷◌, ◌++◌, length, get_or, map, Some, refl, sym, ap, ◌∙◌, subst, ⊎_elim, arith}
+use Rattle.std.proofs.Common.{◌≡◌, ◌≢◌, ℕ, zero, suc, ◌+◌, ◌<◌, Bool, true, false, List, [], ◌∷◌, ◌++◌, length, get_or, map, Some, refl, sym, ap, ◌∙◌, subst, ⊎_elim, add_comm, add-one, arith}
 use Rattle.std.specs.Prelude.{Contains, slice_get}
-use Rattle.std.specs.List.{AllPairs}
+use Rattle.std.specs.List.{AllPairs, position_or_len}
 use Rattle.std.specs.Str.{bytes_eq}
 use Rattle.std.proofs.lemmas.Option.{get_or_from_slice_get}
 use Rattle.std.proofs.lemmas.Slice.Eq.{bytes_eq-Decides}
@@ -9,38 +9,54 @@ use Rattle.std.proofs.lemmas.List.Elements.{All-head, All-tail, All-get_or}
 use Rattle.priz_base.proofs.More.{some_below}
 use Rattle.priz_base.proofs.Members.{contains_cases, contains_none}
 use Rattle.utopist_parser.specs.Named.{Named}
-use Rattle.concept_unfold.specs.ConceptRules.{AreKnown}
-use Rattle.concept_unfold.specs.Unfolded.{number}
+use Rattle.concept_unfold.specs.Unfolded.{AreKnown, number}
 
-false_of : (b : Bool) → (b ≡ true → ⊥) → b ≡ false
+pub false_of : (b : Bool) → (b ≡ true → ⊥) → b ≡ false
 false_of true h = absurd (h refl)
 false_of false h = refl
 
-first_is : (x : List ℕ) (xs : List (List ℕ)) (n : Named) → bytes_eq n.text x ≡ true → number (x ∷ xs) n ≡ 0
+pub first_is : (x : List ℕ) (xs : List (List ℕ)) (n : List ℕ) → bytes_eq n x ≡ true → position_or_len (bytes_eq n) (x ∷ xs) ≡ 0
 first_is x xs n e = rw e refl
 
-first_is_not : (x : List ℕ) (xs : List (List ℕ)) (n : Named) → bytes_eq n.text x ≡ false → number (x ∷ xs) n ≡ 1 + number xs n
+pub first_is_not : (x : List ℕ) (xs : List (List ℕ)) (n : List ℕ) → bytes_eq n x ≡ false → position_or_len (bytes_eq n) (x ∷ xs) ≡ 1 + position_or_len (bytes_eq n) xs
 first_is_not x xs n e = rw e refl
 
 tail_distinct : (x : List ℕ) (xs : List (List ℕ)) → AllPairs (λ a b. a ≢ b) (x ∷ xs) → AllPairs (λ a b. a ≢ b) xs
 tail_distinct x xs h i j d l m = h (suc i) (suc j) d (omega arith) (omega arith)
 
--- where names are distinct, the number of a name is the place where it stands
-pub number_at : (vars : List (List ℕ)) (n : Named) (k : ℕ) → AllPairs (λ a b. a ≢ b) vars → slice_get vars k ≡ Some n.text → number vars n ≡ k
-number_at [] n k d e = absurd (cc)
-number_at (x ∷ xs) n zero d e =
-    let same : n.text ≡ x = cc in first_is x xs n ((bytes_eq-Decides n.text x).1 same)
-number_at (x ∷ xs) n (suc k) d e =
-    let lt = some_below xs k n.text e in
-    let other : bytes_eq n.text x ≡ false =
-    false_of (bytes_eq n.text x) (λ t. d 0 (suc k) x (omega arith) (omega arith) (sym ((bytes_eq-Decides n.text x).0 t) ∙ sym (get_or_from_slice_get xs k n.text x e))) in
-    first_is_not x xs n other ∙ omega (arith, number_at xs n k (tail_distinct x xs d) e)
+-- where names are distinct, a name stands first at the place where it stands
+pub place_at : (names : List (List ℕ)) (n : List ℕ) (k : ℕ) → AllPairs (λ a b. a ≢ b) names → slice_get names k ≡ Some n → position_or_len (bytes_eq n) names ≡ k
+place_at [] n k d e = absurd (cc)
+place_at (x ∷ xs) n zero d e =
+    let same : n ≡ x = cc in first_is x xs n ((bytes_eq-Decides n x).1 same)
+place_at (x ∷ xs) n (suc k) d e =
+    let lt = some_below xs k n e in
+    let other : bytes_eq n x ≡ false =
+    false_of (bytes_eq n x) (λ t. d 0 (suc k) x (omega arith) (omega arith) (sym ((bytes_eq-Decides n x).0 t) ∙ sym (get_or_from_slice_get xs k n x e))) in
+    first_is_not x xs n other ∙ omega (arith, place_at xs n k (tail_distinct x xs d) e)
+
+found_at : (x : List ℕ) (xs : List (List ℕ)) (n : List ℕ) (b : Bool) → bytes_eq n x ≡ b → Contains (x ∷ xs) n → (Contains xs n → slice_get xs (position_or_len (bytes_eq n) xs) ≡ Some n) → slice_get (x ∷ xs) (position_or_len (bytes_eq n) (x ∷ xs)) ≡ Some n
+found_at x xs n true e c rest = rw (first_is x xs n e) (ap Some (sym ((bytes_eq-Decides n x).0 e)))
+found_at x xs n false e c rest =
+    let later : Contains xs n = ⊎_elim (λ s. absurd (let t = (bytes_eq-Decides n x).1 (sym s) in cc)) (λ h. h) (contains_cases x xs n c) in
+    rw (first_is_not x xs n e, add_comm 1 (position_or_len (bytes_eq n) xs), add-one) (rest later)
+
+-- at its place stands the name
+pub stands_there : (names : List (List ℕ)) (n : List ℕ) → Contains names n → slice_get names (position_or_len (bytes_eq n) names) ≡ Some n
+stands_there [] n c = absurd (contains_none n c)
+stands_there (x ∷ xs) n c = found_at x xs n (bytes_eq n x) refl c (λ h. stands_there xs n h)
+
+-- two variables of one number have one name
+pub same_name : (vars : List (List ℕ)) (a b : Named) → Contains vars a.text → Contains vars b.text → number vars a ≡ number vars b → a.text ≡ b.text
+same_name vars a b ca cb e =
+    let there : slice_get vars (number vars a) ≡ Some b.text = rw e (stands_there vars b.text cb) in
+    let here = stands_there vars a.text ca in cc
 
 stable_at : (x : List ℕ) (xs more : List (List ℕ)) (n : Named) (b : Bool) → bytes_eq n.text x ≡ b → Contains (x ∷ xs) n.text → (Contains xs n.text → number (xs ++ more) n ≡ number xs n) → number (x ∷ (xs ++ more)) n ≡ number (x ∷ xs) n
-stable_at x xs more n true e c rest = first_is x (xs ++ more) n e ∙ sym (first_is x xs n e)
+stable_at x xs more n true e c rest = first_is x (xs ++ more) n.text e ∙ sym (first_is x xs n.text e)
 stable_at x xs more n false e c rest =
     let later : Contains xs n.text = ⊎_elim (λ s. absurd (let t = (bytes_eq-Decides n.text x).1 (sym s) in cc)) (λ h. h) (contains_cases x xs n.text c) in
-    first_is_not x (xs ++ more) n e ∙ ap (λ k. 1 + k) (rest later) ∙ sym (first_is_not x xs n e)
+    first_is_not x (xs ++ more) n.text e ∙ ap (λ k. 1 + k) (rest later) ∙ sym (first_is_not x xs n.text e)
 
 -- the number of a variable stays where more variables follow
 pub number_stable : (vars more : List (List ℕ)) (n : Named) → Contains vars n.text → number (vars ++ more) n ≡ number vars n

@@ -1,37 +1,22 @@
--- The rules at a relation: its name, its inputs and its output.
-use Rattle.std.proofs.Common.{◌≡◌, ◌↔◌, ℕ, Bool, false, IsTrue, List, [], ◌∷◌, subst, sym}
-use Rattle.priz_base.proofs.Deciding.{not_so}
+-- The rules of a relation: its name, its inputs and its output.
+use Rattle.std.proofs.Common.{◌≡◌, ℕ, List, [], ◌∷◌, ◌++◌, subst, ap, ◌∙◌}
 use Rattle.utopist_parser.specs.Named.{Named}
 use Rattle.utopist_parser.specs.declared.tree.Item.{Item}
 use Rattle.utopist_parser.specs.declared.tree.Item.TheVariants as item
-use Rattle.concept_unfold.specs.declared.fault.UnfoldFault.{UnfoldFault}
-use Rattle.concept_unfold.specs.ConceptRules.{AreNew, AreKnown, FollowsAfter}
-use Rattle.concept_unfold.specs.Answers.{Breaks}
-use Rattle.concept_unfold.proofs.Names.{refused}
+use Rattle.concept_unfold.specs.declared.fault.Rule.TheVariants as rule
+use Rattle.concept_unfold.specs.Rows.{is_new, AllHold}
+use Rattle.concept_unfold.specs.ConceptRules.{at_name, known_rows, item_rows}
+use Rattle.concept_unfold.proofs.Passing.{Passed, all_left, passed_more}
 
-module _ (names vars : List (List ℕ)) (i : Item) (n o : Named) (inputs : List Named) (shape : i ≡ item.Rel n inputs o) where
-  pub name_refused : (t : List ℕ) (e : UnfoldFault) → t ≡ n.text → Breaks (AreNew names (t ∷ [])) e → Breaks (FollowsAfter names vars i) e
-  name_refused t e same h =
-      refused e (AreNew names (t ∷ [])) (FollowsAfter names vars i)
-      (λ f. subst (λ (x : List ℕ). AreNew names (x ∷ [])) (sym same) (subst (λ (x : Item). FollowsAfter names vars x) shape f).0)
-      h
+pub same_known : (vars used : List (List ℕ)) (ns seen : List Named) → used ≡ vars → seen ≡ ns → known_rows used seen ≡ known_rows vars ns
+same_known vars used ns seen e same = ap (λ (v : List (List ℕ)). known_rows v seen) e ∙ ap (known_rows vars) same
 
-  -- the test looked at these variables and at this slice
-  known_in : (v : List (List ℕ)) (s t : List Named) → v ≡ vars → s ≡ t → AreKnown vars t → AreKnown v s
-  known_in v s t same slice k = subst (λ (x : List Named). AreKnown v x) (sym slice) (subst (λ (x : List (List ℕ)). AreKnown x t) (sym same) k)
+module _ (names vars : List (List ℕ)) (i : Item) (n : Named) (inputs : List Named) (o : Named) (shape : i ≡ item.Rel n inputs o) where
+  pub at_relation : Passed (item_rows names vars i) ((at_name n rule.DuplicateName (is_new names n.text) ∷ []) ++ (known_rows vars inputs ++ known_rows vars (o ∷ [])))
+  at_relation = subst (Passed (item_rows names vars i)) (ap (item_rows names vars) shape) (all_left (item_rows names vars i))
 
-  known_out : (v : List (List ℕ)) (s t : List Named) → v ≡ vars → s ≡ t → AreKnown v s → AreKnown vars t
-  known_out v s t same slice k = subst (λ (x : List Named). AreKnown vars x) slice (subst (λ (x : List (List ℕ)). AreKnown x s) same k)
+  pub at_inputs : AllHold (at_name n rule.DuplicateName (is_new names n.text) ∷ []) → Passed (item_rows names vars i) (known_rows vars inputs ++ known_rows vars (o ∷ []))
+  at_inputs h = passed_more (item_rows names vars i) (at_name n rule.DuplicateName (is_new names n.text) ∷ []) (known_rows vars inputs ++ known_rows vars (o ∷ [])) at_relation h
 
-  pub inputs_refused : (v : List (List ℕ)) (s : List Named) (r : Bool) → v ≡ vars → s ≡ inputs → IsTrue r ↔ AreKnown v s → r ≡ false → FollowsAfter names vars i → ⊥
-  inputs_refused v s r same slice test says f =
-      not_so r test says (known_in v s inputs same slice (subst (λ (x : Item). FollowsAfter names vars x) shape f).1.0)
-
-  pub output_refused : (v : List (List ℕ)) (s : List Named) (r : Bool) → v ≡ vars → s ≡ o ∷ [] → IsTrue r ↔ AreKnown v s → r ≡ false → FollowsAfter names vars i → ⊥
-  output_refused v s r same slice test says f =
-      not_so r test says (known_in v s (o ∷ []) same slice (subst (λ (x : Item). FollowsAfter names vars x) shape f).1.1)
-
-  pub relation_follows : (t : List ℕ) (v : List (List ℕ)) (s u : List Named) → t ≡ n.text → v ≡ vars → s ≡ inputs → u ≡ o ∷ [] → AreNew names (t ∷ []) → AreKnown v s → AreKnown v u → FollowsAfter names vars i
-  relation_follows t v s u same_name same slice out new ins outs =
-      subst (λ (x : Item). FollowsAfter names vars x) (sym shape)
-      (subst (λ (x : List ℕ). AreNew names (x ∷ [])) same_name new, (known_out v s inputs same slice ins, known_out v u (o ∷ []) same out outs))
+  pub at_output : AllHold (at_name n rule.DuplicateName (is_new names n.text) ∷ []) → AllHold (known_rows vars inputs) → Passed (item_rows names vars i) (known_rows vars (o ∷ []))
+  at_output h g = passed_more (item_rows names vars i) (known_rows vars inputs) (known_rows vars (o ∷ [])) (at_inputs h) g

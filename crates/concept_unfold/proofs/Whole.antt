@@ -8,8 +8,7 @@ use Rattle.statement_set.specs.Problem.{Task, IsWhole}
 use Rattle.utopist_parser.specs.Named.{Named}
 use Rattle.utopist_parser.specs.declared.tree.Item.{Item}
 use Rattle.utopist_parser.specs.declared.tree.Item.TheVariants as item
-use Rattle.concept_unfold.specs.ConceptRules.{AreKnown}
-use Rattle.concept_unfold.specs.Unfolded.{number, plain_statement, statements_of}
+use Rattle.concept_unfold.specs.Unfolded.{AreKnown, number, plain_statement, statements_of}
 
 some_want : (vars : List (List ℕ)) (ws : List Named) → AreKnown vars ws → ws ≢ [] → (1 ≤ length vars) × (map (number vars) ws ≢ [])
 some_want vars [] known h = absurd (h refl)

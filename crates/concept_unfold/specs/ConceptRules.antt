@@ -1,41 +1,63 @@
--- The rules of concepts: names are declared once, and before they are used.
-use Rattle.std.specs.Prelude.{◌≡◌, ℕ, List, [], ◌∷◌, ◌++◌, All, Contains}
+-- The rules of concepts, in the order of the text: names are declared once, and before they are used.
+use Rattle.std.specs.Prelude.{ℕ, ◌+◌, List, [], ◌∷◌, ◌++◌, length, map}
 use Rattle.utopist_parser.specs.Named.{Named}
 use Rattle.utopist_parser.specs.declared.tree.Item.{Item}
 use Rattle.utopist_parser.specs.declared.tree.Item.TheVariants as item
+use Rattle.utopist_parser.specs.declared.tree.Concept.{Concept}
+use Rattle.utopist_parser.specs.declared.tree.Compute.{Compute}
 use Rattle.utopist_parser.specs.declared.tree.File.{File}
-use Rattle.concept_unfold.specs.Declarations.{declared, variables, all_variables}
+use Rattle.concept_unfold.specs.declared.fault.Rule.{Rule}
+use Rattle.concept_unfold.specs.declared.fault.Rule.TheVariants as rule
+use Rattle.concept_unfold.specs.declared.fault.Limit.TheVariants as limit
+use Rattle.concept_unfold.specs.Declarations.{declared, variables, all_variables, items_of, concept_names}
+use Rattle.concept_unfold.specs.Rows.{Check, at_most, is_new, is_known, Row}
+
+-- a rule on a name, checked where the name stands
+abbrev pub at_name : Named → Rule → Check → Row
+at_name n r c = record { place = n.place; rule = r; check = c }
 
 -- none of the names is among the earlier ones, nor stands earlier among these
-abbrev pub AreNew : List (List ℕ) → List (List ℕ) → Type 0
-AreNew earlier [] = Unit {0}
-AreNew earlier (n ∷ ns) = (¬ Contains earlier n) × AreNew (earlier ++ n ∷ []) ns
+abbrev pub once_rows : Rule → List (List ℕ) → List Named → List Row
+once_rows r earlier [] = []
+once_rows r earlier (n ∷ ns) = at_name n r (is_new earlier n.text) ∷ once_rows r (earlier ++ n.text ∷ []) ns
 
 -- each name is that of a variable
-abbrev pub AreKnown : List (List ℕ) → List Named → Type 0
-AreKnown vars names = All (λ n. Contains vars n.text) names
+abbrev pub known_rows : List (List ℕ) → List Named → List Row
+known_rows vars names = map (λ n. at_name n rule.UnknownPath (is_known vars n.text)) names
 
--- what an item uses are variables
-abbrev pub UsesKnown : List (List ℕ) → Item → Type 0
-UsesKnown vars (item.Var names) = Unit {0}
-UsesKnown vars (item.Rel name inputs output) = AreKnown vars inputs × AreKnown vars (output ∷ [])
+-- an item behind items that declare these names, and these variables among them: its names are new, and it uses variables
+abbrev pub item_rows : List (List ℕ) → List (List ℕ) → Item → List Row
+item_rows names vars (item.Var ns) = once_rows rule.DuplicateName names ns
+item_rows names vars (item.Rel n inputs output) =
+    at_name n rule.DuplicateName (is_new names n.text) ∷ (known_rows vars inputs ++ known_rows vars (output ∷ []))
 
--- an item follows the rules behind items that declare these names, and these variables among them
-abbrev pub FollowsAfter : List (List ℕ) → List (List ℕ) → Item → Type 0
-FollowsAfter names vars i = AreNew names (declared i) × UsesKnown vars i
+-- items one after another
+abbrev pub items_rows : List (List ℕ) → List (List ℕ) → List Item → List Row
+items_rows names vars [] = []
+items_rows names vars (i ∷ items) = item_rows names vars i ++ items_rows (names ++ declared i) (vars ++ variables i) items
 
--- so does each of the items, behind those before it
-abbrev pub AllFollow : List (List ℕ) → List (List ℕ) → List Item → Type 0
-AllFollow names vars [] = Unit {0}
-AllFollow names vars (i ∷ items) = FollowsAfter names vars i × AllFollow (names ++ declared i) (vars ++ variables i) items
+-- a concept behind concepts of these names: there are not too many, and its name is new
+abbrev pub concept_rows : List (List ℕ) → Concept → List Row
+concept_rows earlier c =
+    at_name c.name (rule.TooMany limit.Concepts) (at_most 1024 (length earlier + 1)) ∷ at_name c.name rule.DuplicateName (is_new earlier c.name.text)
+    ∷ items_rows [] [] c.items
 
--- the compute statement names the concept, and speaks of its variables
-pub record GoalFollows (vars : List (List ℕ)) (f : File) : Type 0 where
-  pub concept : f.compute.name.text ≡ f.concept.name.text
-  pub givens : AreKnown vars f.compute.givens
-  pub wants : AreKnown vars f.compute.wants
+-- concepts one after another
+abbrev pub concepts_rows : List (List ℕ) → List Concept → List Row
+concepts_rows earlier [] = []
+concepts_rows earlier (c ∷ cs) = concept_rows earlier c ++ concepts_rows (earlier ++ c.name.text ∷ []) cs
 
--- the file follows the rules of concepts
-pub record FollowsConceptRules (f : File) : Type 0 where
-  pub items : AllFollow [] [] f.concept.items
-  pub goal : GoalFollows (all_variables f.concept.items) f
+-- a compute statement behind so many: there are not too many, it names a concept, and speaks of its variables
+abbrev pub compute_rows : List Concept → ℕ → Compute → List Row
+compute_rows concepts before c =
+    at_name c.name (rule.TooMany limit.Computes) (at_most 64 (before + 1)) ∷ at_name c.name rule.UnknownConcept (is_known (concept_names concepts) c.name.text)
+    ∷ (known_rows (all_variables (items_of concepts c.name.text)) c.givens ++ known_rows (all_variables (items_of concepts c.name.text)) c.wants)
+
+-- compute statements one after another
+abbrev pub computes_rows : List Concept → ℕ → List Compute → List Row
+computes_rows concepts before [] = []
+computes_rows concepts before (c ∷ cs) = compute_rows concepts before c ++ computes_rows concepts (before + 1) cs
+
+-- the rules of concepts of a file
+abbrev pub concept_rules : File → List Row
+concept_rules f = concepts_rows [] f.concepts ++ computes_rows f.concepts 0 f.computes

@@ -1,9 +1,12 @@
 -- What the items of a concept declare.
-use Rattle.std.specs.Prelude.{ℕ, List, [], ◌∷◌, map}
-use Rattle.std.specs.List.{flat_map}
+use Rattle.std.specs.Prelude.{ℕ, if◌then◌else◌, List, [], ◌∷◌, map, slice_get}
+use Rattle.std.specs.Str.{bytes_eq}
+use Rattle.std.specs.List.{flat_map, position_or_len}
+use Rattle.std.specs.Option.{option_map_or}
 use Rattle.utopist_parser.specs.Named.{Named}
 use Rattle.utopist_parser.specs.declared.tree.Item.{Item}
 use Rattle.utopist_parser.specs.declared.tree.Item.TheVariants as item
+use Rattle.utopist_parser.specs.declared.tree.Concept.{Concept}
 
 -- the characters of names
 abbrev pub texts : List Named → List (List ℕ)
@@ -27,3 +30,29 @@ all_variables items = flat_map variables items
 pub record Known : Type 0 where
   pub names : List (List ℕ)
   pub variables : List (List ℕ)
+
+-- the items of the first concept of this name, or none where there is no such concept
+abbrev pub items_of : List Concept → List ℕ → List Item
+items_of [] name = []
+items_of (c ∷ cs) name = if bytes_eq c.name.text name then c.items else items_of cs name
+
+-- the names of concepts
+abbrev pub concept_names : List Concept → List (List ℕ)
+concept_names cs = map (λ c. c.name.text) cs
+
+-- concepts as compute statements see them: their names, and the variables of each
+pub record Outline : Type 0 where
+  pub names : List (List ℕ)
+  pub variables : List (List (List ℕ))
+
+-- the variables of each concept
+abbrev pub concept_variables : List Concept → List (List (List ℕ))
+concept_variables cs = map (λ c. all_variables c.items) cs
+
+-- the outline of concepts
+abbrev pub outline_of : List Concept → Outline
+outline_of cs = record { names = concept_names cs; variables = concept_variables cs }
+
+-- the variables of the concept of this name
+abbrev pub variables_named : Outline → List ℕ → List (List ℕ)
+variables_named o name = option_map_or (λ vs. vs) (slice_get o.variables (position_or_len (bytes_eq name) o.names)) []

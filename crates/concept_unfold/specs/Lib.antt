@@ -1,4 +1,5 @@
 pub mod Declarations
+pub mod Rows
 pub mod ConceptRules
 pub mod UnfoldingRules
 pub mod Unfolded

@@ -1,5 +1,5 @@
 -- The problem of a file.
-use Rattle.std.specs.Prelude.{ℕ, List, [], ◌∷◌, map}
+use Rattle.std.specs.Prelude.{ℕ, List, [], ◌∷◌, map, All, Contains}
 use Rattle.std.specs.List.{flat_map, position_or_len}
 use Rattle.std.specs.Str.{bytes_eq}
 use Rattle.statement_set.specs.declared.statement.Statement.{Statement}
@@ -8,12 +8,17 @@ use Rattle.statement_set.specs.Problem.{Task}
 use Rattle.utopist_parser.specs.Named.{Named}
 use Rattle.utopist_parser.specs.declared.tree.Item.{Item}
 use Rattle.utopist_parser.specs.declared.tree.Item.TheVariants as item
+use Rattle.utopist_parser.specs.declared.tree.Compute.{Compute}
 use Rattle.utopist_parser.specs.declared.tree.File.{File}
-use Rattle.concept_unfold.specs.Declarations.{all_variables}
+use Rattle.concept_unfold.specs.Declarations.{all_variables, items_of}
 
 -- the number of a variable is its place among the variables
 abbrev pub number : List (List ℕ) → Named → ℕ
 number vars n = position_or_len (bytes_eq n.text) vars
+
+-- each name is that of a variable
+abbrev pub AreKnown : List (List ℕ) → List Named → Type 0
+AreKnown vars names = All (λ n. Contains vars n.text) names
 
 -- the statement of a relation
 abbrev pub plain_statement : List (List ℕ) → List Named → Named → Statement
@@ -24,23 +29,19 @@ abbrev pub statements_of : List (List ℕ) → Item → List Statement
 statements_of vars (item.Var names) = []
 statements_of vars (item.Rel name inputs output) = plain_statement vars inputs output ∷ []
 
--- the numbers of what is given
-abbrev pub given_numbers : File → List ℕ
-given_numbers f = map (number (all_variables f.concept.items)) f.compute.givens
-
 -- what is given, without a number
 abbrev pub given_of : ℕ → Given
 given_of v = record { var = v }
 
--- the numbers of what is wanted
-abbrev pub want_numbers : File → List ℕ
-want_numbers f = map (number (all_variables f.concept.items)) f.compute.wants
-
--- the problem: variables, statements, what is given and what is wanted, each in the order of the text
-abbrev pub problem_of : File → Task
-problem_of f = record {
-  names = all_variables f.concept.items;
-  statements = flat_map (statements_of (all_variables f.concept.items)) f.concept.items;
-  givens = map given_of (given_numbers f);
-  wants = want_numbers f;
+-- the problem of these items and a compute statement: variables, statements, what is given and what is wanted, each in the order of the text
+abbrev pub problem_from : List Item → Compute → Task
+problem_from items c = record {
+  names = all_variables items;
+  statements = flat_map (statements_of (all_variables items)) items;
+  givens = map given_of (map (number (all_variables items)) c.givens);
+  wants = map (number (all_variables items)) c.wants;
 }
+
+-- the problem of a compute statement of a file
+abbrev pub problem_of : File → Compute → Task
+problem_of f c = problem_from (items_of f.concepts c.name.text) c

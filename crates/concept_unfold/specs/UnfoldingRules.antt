@@ -1,11 +1,16 @@
 -- The rules of unfolding: the limits of a problem, and no variable given twice.
-use Rattle.std.specs.Prelude.{◌≢◌, ℕ, ◌+◌, ◌≤◌, List, length}
-use Rattle.std.specs.List.{AllPairs, sum_by}
+use Rattle.std.specs.Prelude.{ℕ, ◌+◌, List, [], ◌∷◌, ◌++◌, length}
+use Rattle.std.specs.List.{sum_by, flat_map}
 use Rattle.utopist_parser.specs.declared.tree.Item.{Item}
 use Rattle.utopist_parser.specs.declared.tree.Item.TheVariants as item
+use Rattle.utopist_parser.specs.declared.tree.Compute.{Compute}
 use Rattle.utopist_parser.specs.declared.tree.File.{File}
-use Rattle.concept_unfold.specs.Declarations.{all_variables}
-use Rattle.concept_unfold.specs.Unfolded.{given_numbers}
+use Rattle.concept_unfold.specs.declared.fault.Rule.TheVariants as rule
+use Rattle.concept_unfold.specs.declared.fault.Limit.{Limit}
+use Rattle.concept_unfold.specs.declared.fault.Limit.TheVariants as limit
+use Rattle.concept_unfold.specs.Declarations.{all_variables, items_of}
+use Rattle.concept_unfold.specs.Rows.{at_most, Row}
+use Rattle.concept_unfold.specs.ConceptRules.{at_name, once_rows, concept_rules}
 
 -- how much an item adds to the size of a problem
 abbrev pub size_of : Item → ℕ
@@ -17,14 +22,20 @@ abbrev pub statements_in : Item → ℕ
 statements_in (item.Var names) = 0
 statements_in (item.Rel name inputs output) = 1
 
--- the limits of a problem; each declared path is a variable
-pub record KeepsLimits (items : List Item) : Type 0 where
-  pub paths : length (all_variables items) ≤ 8192
-  pub variables : length (all_variables items) ≤ 1024
-  pub size : sum_by size_of items ≤ 262144
-  pub statements : sum_by statements_in items ≤ 4096
+-- a limit on the problem of a compute statement, checked at its name
+abbrev pub limit_row : Compute → Limit → ℕ → ℕ → Row
+limit_row c l most n = at_name c.name (rule.TooMany l) (at_most most n)
 
--- the file follows the rules of unfolding
-pub record FollowsUnfoldingRules (f : File) : Type 0 where
-  pub limits : KeepsLimits f.concept.items
-  pub given_once : AllPairs (λ x y. x ≢ y) (given_numbers f)
+-- the limits of a problem of these items; each declared path is a variable
+abbrev pub limit_rows : Compute → List Item → List Row
+limit_rows c items =
+    limit_row c limit.Paths 8192 (length (all_variables items)) ∷ limit_row c limit.Variables 1024 (length (all_variables items))
+    ∷ limit_row c limit.Size 262144 (sum_by size_of items) ∷ limit_row c limit.Statements 4096 (sum_by statements_in items) ∷ []
+
+-- the rules of unfolding of a compute statement
+abbrev pub unfolding_rules : File → Compute → List Row
+unfolding_rules f c = limit_rows c (items_of f.concepts c.name.text) ++ once_rows rule.DuplicateInput [] c.givens
+
+-- all rules of a file, in the order in which they are reported
+abbrev pub rules_of : File → List Row
+rules_of f = concept_rules f ++ flat_map (unfolding_rules f) f.computes

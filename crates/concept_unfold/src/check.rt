@@ -1,50 +1,72 @@
-ghost use Rattle.std.specs.Prelude.{◌≡◌, ◌∷◌, [], ◌++◌, OnOk};
-ghost use Rattle.concept_unfold.specs.Declarations.{declared, variables, all_variables};
-ghost use Rattle.concept_unfold.specs.ConceptRules.{FollowsAfter, AllFollow, GoalFollows, FollowsConceptRules};
-ghost use Rattle.concept_unfold.specs.Answers.{Checks};
+ghost use Rattle.std.specs.Prelude.{◌≡◌, ◌<◌, ◌∷◌, [], ◌++◌, length, slice_get, Some, OnOk, IfOk};
+ghost use Rattle.utopist_parser.specs.declared.tree.Compute.{Compute};
+ghost use Rattle.concept_unfold.specs.Declarations.{declared, variables, all_variables, outline_of};
+ghost use Rattle.concept_unfold.specs.Rows.{Checks};
+ghost use Rattle.concept_unfold.specs.ConceptRules.{item_rows, items_rows, concept_rows, concepts_rows, compute_rows, computes_rows, concept_rules};
 
-use crate::fault::UnfoldFault;
+use crate::concepts::Concepts;
+use crate::fault::{Limit, Rule, UnfoldFault};
+use crate::rules::{expect_all_known, expect_at_most, expect_new, fault_at};
 use crate::scope::Scope;
+use statement_set::Names;
 use std::alloc::Global;
 use std::slice;
-use utopist_parser::{File, Item};
+use utopist_parser::{Concept, File, Item};
+
+const MAX_CONCEPTS: usize = 1024;
+
+const MAX_COMPUTES: usize = 64;
 
 /// Checks the rules of concepts.
 pub fn check_concepts(alloc: Global, file: &File) -> Result<(), UnfoldFault>
-    ensures { Checks (FollowsConceptRules file.now) result }
+    ensures { Checks (concept_rules file.now) result }
+{
+    let concepts = check_each_concept(alloc, file.concepts.as_slice())?;
+    check_each_compute(&concepts, file)
+}
+
+fn check_each_concept(alloc: Global, concepts: &[Concept]) -> Result<Concepts, UnfoldFault>
+    ensures rules { Checks (concepts_rows [] concepts.now) result }
+    ensures outline { IfOk result (λ o. o ≡ outline_of concepts.now) }
+{
+    let mut checked = Concepts::new(alloc);
+    for concept in concepts {
+        check_concept(alloc, &mut checked, concept)?;
+    }
+    Ok(checked)
+}
+
+fn check_concept(
+    alloc: Global,
+    checked: &mut Concepts,
+    concept: &Concept,
+) -> Result<(), UnfoldFault>
+    ensures rules { Checks (concept_rows checked.old.names concept.now) result }
+    ensures names { OnOk result (checked.new.names ≡ checked.old.names ++ concept.now.name.text ∷ []) }
+    ensures variables { OnOk result (checked.new.variables ≡ checked.old.variables ++ all_variables concept.now.items ∷ []) }
+{
+    let name = &concept.name;
+    let count = checked.names().len().saturating_add(1);
+    expect_at_most(name, Limit::Concepts, MAX_CONCEPTS, count)?;
+    expect_new(checked.names(), name, Rule::DuplicateName)?;
+    let variables = check_items(alloc, concept.items.as_slice())?;
+    checked.add(name.text(), variables)?;
+    Ok(())
+}
+
+fn check_items(alloc: Global, items: &[Item]) -> Result<Names, UnfoldFault>
+    ensures rules { Checks (items_rows [] [] items.now) result }
+    ensures variables { IfOk result (λ vs. vs ≡ all_variables items.now) }
 {
     let mut scope = Scope::new(alloc);
-    check_items(&mut scope, file.concept.items.as_slice())?;
-    check_goal(&scope, file)
-}
-
-fn check_goal(scope: &Scope, file: &File) -> Result<(), UnfoldFault>
-    ensures { Checks (GoalFollows scope.now.variables file.now) result }
-{
-    if file.compute.name.text() != file.concept.name.text() {
-        return Err(UnfoldFault::Model);
-    }
-    if !scope.knows(file.compute.givens.as_slice()) {
-        return Err(UnfoldFault::Model);
-    }
-    if !scope.knows(file.compute.wants.as_slice()) {
-        return Err(UnfoldFault::Model);
-    }
-    Ok(())
-}
-
-fn check_items(scope: &mut Scope, items: &[Item]) -> Result<(), UnfoldFault>
-    ensures rule { Checks (AllFollow scope.old.names scope.old.variables items.now) result }
-    ensures variables { OnOk result (scope.new.variables ≡ scope.old.variables ++ all_variables items.now) }
-{
     for item in items {
-        check_item(scope, item)?;
+        check_item(&mut scope, item)?;
     }
-    Ok(())
+    Ok(scope.into_variables())
 }
 
 fn check_item(scope: &mut Scope, item: &Item) -> Result<(), UnfoldFault>
-    ensures rule { Checks (FollowsAfter scope.old.names scope.old.variables item.now) result }
+    ensures rules { Checks (item_rows scope.old.names scope.old.variables item.now) result }
     ensures names { OnOk result (scope.new.names ≡ scope.old.names ++ declared item.now) }
     ensures variables { OnOk result (scope.new.variables ≡ scope.old.variables ++ variables item.now) }
 {
@@ -55,14 +77,34 @@ fn check_item(scope: &mut Scope, item: &Item) -> Result<(), UnfoldFault>
             inputs,
             output,
         } => {
-            scope.declare_operator(name.text())?;
-            if !scope.knows(inputs.as_slice()) {
-                return Err(UnfoldFault::Model);
-            }
-            if !scope.knows(slice::from_ref(output)) {
-                return Err(UnfoldFault::Model);
-            }
-            Ok(())
+            scope.declare_operator(name)?;
+            expect_all_known(scope.variables(), inputs.as_slice())?;
+            expect_all_known(scope.variables(), slice::from_ref(output))
         }
     }
+}
+
+fn check_each_compute(concepts: &Concepts, file: &File) -> Result<(), UnfoldFault>
+    requires { concepts.now ≡ outline_of file.now.concepts }
+    ensures { Checks (computes_rows file.now.concepts 0 file.now.computes) result }
+{
+    for which in 0..file.computes.len() {
+        check_compute(concepts, file, which)?;
+    }
+    Ok(())
+}
+
+fn check_compute(concepts: &Concepts, file: &File, which: usize) -> Result<(), UnfoldFault>
+    requires outline { concepts.now ≡ outline_of file.now.concepts }
+    requires which { which < length file.now.computes }
+    ensures { (c : Compute) → slice_get file.now.computes which ≡ Some c → Checks (compute_rows file.now.concepts which c) result }
+{
+    let compute = &file.computes.as_slice()[which];
+    let name = &compute.name;
+    expect_at_most(name, Limit::Computes, MAX_COMPUTES, which.saturating_add(1))?;
+    let Some(variables) = concepts.variables(name.text()) else {
+        return Err(fault_at(name, Rule::UnknownConcept));
+    };
+    expect_all_known(variables, compute.givens.as_slice())?;
+    expect_all_known(variables, compute.wants.as_slice())
 }

@@ -1,13 +1,45 @@
+//! Which rule a file breaks, and where.
 ghost use Rattle.std.specs.Prelude.{◌≡◌};
 ghost use Rattle.concept_unfold.specs.declared.fault.UnfoldFault.TheVariants as fault;
 
-use priz_base::NoMem;
+use priz_base::{NoMem, Place};
+
+/// What there are too many of.
+#[derive(Clone, Copy, Debug, PartialEq, Eq)]
+pub enum Limit {
+    Concepts,
+    Computes,
+    /// Declared paths of a concept.
+    Paths,
+    Variables,
+    /// The size of a problem.
+    Size,
+    Statements,
+}
+
+/// The rule that is broken.
+#[derive(Clone, Copy, Debug, PartialEq, Eq)]
+pub enum Rule {
+    UnknownConcept,
+    DuplicateName,
+    UnknownPath,
+    /// A variable is given twice.
+    DuplicateInput,
+    TooMany(Limit),
+}
+
+/// The first rule that a file breaks, and the place of the name that breaks it.
+#[derive(Clone, Copy, Debug, PartialEq, Eq)]
+pub struct ModelFault {
+    pub place: Place,
+    pub rule: Rule,
+}
 
 /// Why a file has no problem.
 #[derive(Clone, Copy, Debug, PartialEq, Eq)]
 pub enum UnfoldFault {
     /// A rule fails.
-    Model,
+    Model(ModelFault),
     /// Want of memory.
     NoMem,
 }

@@ -1,11 +1,11 @@
-ghost use Rattle.std.specs.Prelude.{◌≡◌, ◌≢◌, [], map, OnOk};
-ghost use Rattle.std.specs.List.{AllPairs};
-ghost use Rattle.concept_unfold.specs.ConceptRules.{AreKnown};
-ghost use Rattle.concept_unfold.specs.Unfolded.{number, given_of};
-ghost use Rattle.concept_unfold.specs.Answers.{Checks};
+ghost use Rattle.std.specs.Prelude.{◌≡◌, [], map, OnOk};
+ghost use Rattle.concept_unfold.specs.Rows.{Checks};
+ghost use Rattle.concept_unfold.specs.ConceptRules.{once_rows};
+ghost use Rattle.concept_unfold.specs.Unfolded.{number, given_of, AreKnown};
 
-use crate::fault::UnfoldFault;
+use crate::fault::{Rule, UnfoldFault};
 use crate::numbers::var_of;
+use crate::rules::fault_at;
 use priz_base::{NoMem, VarSet};
 use statement_set::{Given, Problem};
 use utopist_parser::{Compute, Name};
@@ -16,7 +16,7 @@ pub(crate) fn add_goal(problem: &mut Problem, compute: &Compute) -> Result<(), U
     requires no_wants { problem.old.wants ≡ [] }
     requires givens { AreKnown problem.old.names compute.now.givens }
     requires wants { AreKnown problem.old.names compute.now.wants }
-    ensures once { Checks (AllPairs (λ x y. x ≢ y) (map (number problem.old.names) compute.now.givens)) result }
+    ensures once { Checks (once_rows Rule.DuplicateInput [] compute.now.givens) result }
     ensures added { OnOk result (problem.new ≡ record problem.old { givens = map given_of (map (number problem.old.names) compute.now.givens); wants = map (number problem.old.names) compute.now.wants }) }
 {
     add_givens(problem, compute.givens.as_slice())?;
@@ -27,7 +27,7 @@ pub(crate) fn add_goal(problem: &mut Problem, compute: &Compute) -> Result<(), U
 fn add_givens(problem: &mut Problem, names: &[Name]) -> Result<(), UnfoldFault>
     requires none { problem.old.givens ≡ [] }
     requires known { AreKnown problem.old.names names.now }
-    ensures once { Checks (AllPairs (λ x y. x ≢ y) (map (number problem.old.names) names.now)) result }
+    ensures once { Checks (once_rows Rule.DuplicateInput [] names.now) result }
     ensures added { OnOk result (problem.new ≡ record problem.old { givens = map given_of (map (number problem.old.names) names.now) }) }
 {
     problem.is_well_formed();
@@ -35,12 +35,11 @@ fn add_givens(problem: &mut Problem, names: &[Name]) -> Result<(), UnfoldFault>
     for name in names {
         let var = var_of(problem, name);
         if given.has(var) {
-            return Err(UnfoldFault::Model);
+            return Err(fault_at(name, Rule::DuplicateInput));
         }
         problem.add_given(Given { var })?;
         given.add(var);
     }
-    problem.is_well_formed();
     Ok(())
 }
 

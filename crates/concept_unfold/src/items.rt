@@ -1,11 +1,13 @@
 ghost use Rattle.std.specs.Prelude.{◌≡◌, ◌+◌, ◌<◌, ◌≤◌, ◌∷◌, ◌++◌, [], length, Contains, OnOk};
-ghost use Rattle.std.specs.List.{flat_map};
+ghost use Rattle.std.specs.List.{flat_map, sum_by};
 ghost use Rattle.statement_set.specs.Problem.{empty_task};
 ghost use Rattle.concept_unfold.specs.Declarations.{texts, variables, all_variables};
-ghost use Rattle.concept_unfold.specs.ConceptRules.{AreNew, AreKnown, UsesKnown, AllFollow};
-ghost use Rattle.concept_unfold.specs.UnfoldingRules.{statements_in, KeepsLimits};
-ghost use Rattle.concept_unfold.specs.Unfolded.{plain_statement, statements_of};
+ghost use Rattle.concept_unfold.specs.Rows.{AllHold};
+ghost use Rattle.concept_unfold.specs.ConceptRules.{once_rows, item_rows, items_rows};
+ghost use Rattle.concept_unfold.specs.UnfoldingRules.{statements_in};
+ghost use Rattle.concept_unfold.specs.Unfolded.{plain_statement, statements_of, AreKnown};
 
+use crate::fault::Rule;
 use crate::numbers::{var_of, vars_of};
 use priz_base::NoMem;
 use sqlite_items::Items;
@@ -16,8 +18,9 @@ use utopist_parser::{Item, Name};
 /// Adds the variables and the statements of items to an empty problem.
 pub(crate) fn add_items(alloc: Global, problem: &mut Problem, items: &[Item]) -> Result<(), NoMem>
     requires empty { problem.old ≡ empty_task }
-    requires rules { AllFollow [] [] items.now }
-    requires limits { KeepsLimits items.now }
+    requires rules { AllHold (items_rows [] [] items.now) }
+    requires names { length (all_variables items.now) ≤ 1024 }
+    requires statements { sum_by statements_in items.now ≤ 4096 }
     ensures { OnOk result (problem.new ≡ record empty_task { names = all_variables items.now; statements = flat_map (statements_of (all_variables items.now)) items.now }) }
 {
     for item in items {
@@ -27,8 +30,7 @@ pub(crate) fn add_items(alloc: Global, problem: &mut Problem, items: &[Item]) ->
 }
 
 fn add_item(alloc: Global, problem: &mut Problem, item: &Item) -> Result<(), NoMem>
-    requires fresh { AreNew problem.old.names (variables item.now) }
-    requires known { UsesKnown problem.old.names item.now }
+    requires rules { AllHold (item_rows problem.old.names problem.old.names item.now) }
     requires names { length problem.old.names + length (variables item.now) ≤ 1024 }
     requires statements { length problem.old.statements + statements_in item.now ≤ 4096 }
     ensures { OnOk result (problem.new ≡ record problem.old { names = problem.old.names ++ variables item.now; statements = problem.old.statements ++ statements_of problem.old.names item.now }) }
@@ -42,7 +44,7 @@ fn add_item(alloc: Global, problem: &mut Problem, item: &Item) -> Result<(), NoM
 }
 
 fn add_variables(problem: &mut Problem, names: &[Name]) -> Result<(), NoMem>
-    requires fresh { AreNew problem.old.names (texts names.now) }
+    requires fresh { AllHold (once_rows Rule.DuplicateName problem.old.names names.now) }
     requires room { length problem.old.names + length names.now ≤ 1024 }
     ensures { OnOk result (problem.new ≡ record problem.old { names = problem.old.names ++ texts names.now }) }
 {

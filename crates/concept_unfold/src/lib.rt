@@ -1,17 +1,19 @@
-//! From a file to the problem of its compute statement: the rules of concepts, and unfolding.
+//! From a file to the problems of its compute statements: the rules of concepts, and unfolding.
 #![tactic(auto)]
 
 mod check;
+mod concepts;
 mod fault;
 mod goal;
 mod items;
 mod limits;
 mod numbers;
+mod rules;
 mod scope;
 #[cfg(test)]
 mod tests;
 mod unfolding;
 
 pub use check::check_concepts;
-pub use fault::UnfoldFault;
+pub use fault::{Limit, ModelFault, Rule, UnfoldFault};
 pub use unfolding::unfold;

@@ -1,9 +1,14 @@
-ghost use Rattle.std.specs.Prelude.{◌≡◌, ◌-◌, ◌^◌, ◌↔◌, length, min, IsTrue};
+ghost use Rattle.std.specs.Prelude.{◌≡◌, ◌-◌, ◌^◌, length, min};
 ghost use Rattle.std.specs.List.{sum_by};
 ghost use Rattle.concept_unfold.specs.Declarations.{variables, all_variables};
-ghost use Rattle.concept_unfold.specs.UnfoldingRules.{size_of, statements_in, KeepsLimits};
+ghost use Rattle.concept_unfold.specs.Rows.{Checks};
+ghost use Rattle.concept_unfold.specs.UnfoldingRules.{size_of, statements_in, limit_rows};
 
-use utopist_parser::Item;
+use crate::fault::{Limit, UnfoldFault};
+use crate::rules::expect_at_most;
+use utopist_parser::{Compute, Item};
+
+const MAX_PATHS: usize = 8192;
 
 const MAX_VARIABLES: usize = 1024;
 
@@ -19,18 +24,16 @@ struct Counts {
     statements: usize,
 }
 
-/// Whether the problem of these items keeps the limits.
-pub(crate) fn keeps_limits(items: &[Item]) -> bool
-    ensures { IsTrue result ↔ KeepsLimits items.now }
+/// Checks the limits of the problem of these items.
+pub(crate) fn check_limits(compute: &Compute, items: &[Item]) -> Result<(), UnfoldFault>
+    ensures { Checks (limit_rows compute.now items.now) result }
 {
+    let name = &compute.name;
     let counts = count(items);
-    if counts.variables > MAX_VARIABLES {
-        return false;
-    }
-    if counts.size > MAX_SIZE {
-        return false;
-    }
-    counts.statements <= MAX_STATEMENTS
+    expect_at_most(name, Limit::Paths, MAX_PATHS, counts.variables)?;
+    expect_at_most(name, Limit::Variables, MAX_VARIABLES, counts.variables)?;
+    expect_at_most(name, Limit::Size, MAX_SIZE, counts.size)?;
+    expect_at_most(name, Limit::Statements, MAX_STATEMENTS, counts.statements)
 }
 
 fn count(items: &[Item]) -> Counts

@@ -1,7 +1,6 @@
 ghost use Rattle.std.specs.Prelude.{◌≡◌, ◌<◌, map, Contains, IfOk};
 ghost use Rattle.statement_set.specs.Problem.{var_count, AreVars};
-ghost use Rattle.concept_unfold.specs.ConceptRules.{AreKnown};
-ghost use Rattle.concept_unfold.specs.Unfolded.{number};
+ghost use Rattle.concept_unfold.specs.Unfolded.{number, AreKnown};
 
 use priz_base::{NoMem, Var};
 use sqlite_items::Items;

@@ -1,16 +1,16 @@
-ghost use Rattle.std.specs.Prelude.{◌≡◌, ◌∷◌, [], ◌++◌, ◌↔◌, Contains, IsTrue, OnOk};
+ghost use Rattle.std.specs.Prelude.{◌≡◌, ◌∷◌, [], ◌++◌, OnOk};
 ghost use Rattle.concept_unfold.specs.Declarations.{texts};
-ghost use Rattle.concept_unfold.specs.ConceptRules.{AreNew, AreKnown};
-ghost use Rattle.concept_unfold.specs.Answers.{Checks};
+ghost use Rattle.concept_unfold.specs.Rows.{is_new, Checks};
+ghost use Rattle.concept_unfold.specs.ConceptRules.{at_name, once_rows};
 
-use crate::fault::UnfoldFault;
-use priz_base::NoMem;
+use crate::fault::{Rule, UnfoldFault};
+use crate::rules::expect_new;
 use statement_set::Names;
 use std::alloc::Global;
 use std::marker::Model;
 use utopist_parser::Name;
 
-/// The names declared so far, and which of them are variables.
+/// The names declared so far in a concept, and which of them are variables.
 #[derive(Drop)]
 pub(crate) struct Scope {
     names: Names,
@@ -38,51 +38,48 @@ impl Scope {
         }
     }
 
-    pub(crate) fn declare_operator(&mut self, name: &str) -> Result<(), UnfoldFault>
-        ensures rule { Checks (AreNew self.old.names (name.now ∷ [])) result }
-        ensures names { OnOk result (self.new.names ≡ self.old.names ++ name.now ∷ []) }
+    pub(crate) fn declare_operator(&mut self, name: &Name) -> Result<(), UnfoldFault>
+        ensures rule { Checks (at_name name.now Rule.DuplicateName (is_new self.old.names name.now.text) ∷ []) result }
+        ensures names { OnOk result (self.new.names ≡ self.old.names ++ name.now.text ∷ []) }
         ensures variables { OnOk result (self.new.variables ≡ self.old.variables) }
     {
-        if self.names.has(name) {
-            return Err(UnfoldFault::Model);
-        }
-        self.names.add(name)?;
+        expect_new(&self.names, name, Rule::DuplicateName)?;
+        self.names.add(name.text())?;
         Ok(())
     }
 
-    fn declare_variable(&mut self, name: &str) -> Result<(), UnfoldFault>
-        ensures rule { Checks (AreNew self.old.names (name.now ∷ [])) result }
-        ensures names { OnOk result (self.new.names ≡ self.old.names ++ name.now ∷ []) }
-        ensures variables { OnOk result (self.new.variables ≡ self.old.variables ++ name.now ∷ []) }
+    fn declare_variable(&mut self, name: &Name) -> Result<(), UnfoldFault>
+        ensures rule { Checks (at_name name.now Rule.DuplicateName (is_new self.old.names name.now.text) ∷ []) result }
+        ensures names { OnOk result (self.new.names ≡ self.old.names ++ name.now.text ∷ []) }
+        ensures variables { OnOk result (self.new.variables ≡ self.old.variables ++ name.now.text ∷ []) }
     {
-        if self.names.has(name) {
-            return Err(UnfoldFault::Model);
-        }
-        self.names.add(name)?;
-        self.variables.add(name)?;
+        expect_new(&self.names, name, Rule::DuplicateName)?;
+        let text = name.text();
+        self.names.add(text)?;
+        self.variables.add(text)?;
         Ok(())
     }
 
     pub(crate) fn declare_variables(&mut self, names: &[Name]) -> Result<(), UnfoldFault>
-        ensures rule { Checks (AreNew self.old.names (texts names.now)) result }
+        ensures rules { Checks (once_rows Rule.DuplicateName self.old.names names.now) result }
         ensures names { OnOk result (self.new.names ≡ self.old.names ++ texts names.now) }
         ensures variables { OnOk result (self.new.variables ≡ self.old.variables ++ texts names.now) }
     {
         for name in names {
-            self.declare_variable(name.text())?;
+            self.declare_variable(name)?;
         }
         Ok(())
     }
 
-    /// Whether each name is that of a variable.
-    pub(crate) fn knows(&self, names: &[Name]) -> bool
-        ensures { IsTrue result ↔ AreKnown self.now.variables names.now }
+    pub(crate) fn variables(&self) -> &Names
+        ensures { result.now ≡ self.now.variables }
     {
-        for name in names {
-            if !self.variables.has(name.text()) {
-                return false;
-            }
-        }
-        true
+        &self.variables
+    }
+
+    pub(crate) fn into_variables(self) -> Names
+        ensures { result ≡ self.variables }
+    {
+        self.variables
     }
 }

@@ -1,30 +1,46 @@
-ghost use Rattle.std.specs.Prelude.{◌≡◌, ◌≢◌, [], All, IfOk};
+ghost use Rattle.std.specs.Prelude.{◌≡◌, ◌≢◌, ◌<◌, [], length, slice_get, Some, All, IfOk};
 ghost use Rattle.statement_set.specs.Problem.{IsWhole};
-ghost use Rattle.concept_unfold.specs.ConceptRules.{FollowsConceptRules};
+ghost use Rattle.utopist_parser.specs.declared.tree.Compute.{Compute};
+ghost use Rattle.utopist_parser.specs.Forms.{AllAsk};
+ghost use Rattle.concept_unfold.specs.Rows.{AllHold};
+ghost use Rattle.concept_unfold.specs.ConceptRules.{concept_rules};
+ghost use Rattle.concept_unfold.specs.Declarations.{items_of};
 ghost use Rattle.concept_unfold.specs.Answers.{UnfoldOf};
 
 use crate::fault::UnfoldFault;
 use crate::goal::add_goal;
 use crate::items::add_items;
-use crate::limits::keeps_limits;
+use crate::limits::check_limits;
 use statement_set::Problem;
 use std::alloc::Global;
-use utopist_parser::File;
+use utopist_parser::{Concept, File, Item};
 
-/// The problem of the compute statement.
-pub fn unfold(alloc: Global, file: &File) -> Result<Problem, UnfoldFault>
-    requires rules { FollowsConceptRules file.now }
-    requires wants { file.now.compute.wants ≢ [] }
-    ensures problem { UnfoldOf file.now result }
+/// The problem of a compute statement, by its number from 0.
+pub fn unfold(alloc: Global, file: &File, which: u32) -> Result<Problem, UnfoldFault>
+    requires which { which < length file.now.computes }
+    requires rules { AllHold (concept_rules file.now) }
+    requires wants { AllAsk file.now }
+    ensures problem { (c : Compute) → slice_get file.now.computes which ≡ Some c → UnfoldOf file.now c result }
     ensures whole { IfOk result IsWhole }
     ensures plain { IfOk result (λ p. All (λ s. s.subs ≡ []) p.statements) }
 {
-    let items = file.concept.items.as_slice();
-    if !keeps_limits(items) {
-        return Err(UnfoldFault::Model);
-    }
+    let compute = &file.computes.as_slice()[which as usize];
+    let items = items_of(file.concepts.as_slice(), compute.name.text());
+    check_limits(compute, items)?;
     let mut problem = Problem::new(alloc);
     add_items(alloc, &mut problem, items)?;
-    add_goal(&mut problem, &file.compute)?;
+    add_goal(&mut problem, compute)?;
     Ok(problem)
+}
+
+/// The items of the concept of that name.
+fn items_of<'a>(concepts: &'a [Concept], name: &str) -> &'a [Item]
+    ensures { result.now ≡ items_of concepts.now name.now }
+{
+    for concept in concepts {
+        if concept.name.text() == name {
+            return concept.items.as_slice();
+        }
+    }
+    &[]
 }

@@ -1,17 +1,19 @@
 -- The inputs that are accepted.
 use Rattle.std.specs.Prelude.{ℕ, ◌≤◌, List, length}
+use Rattle.std.specs.Str.{IsUtf8}
 use Rattle.priz_base.specs.Reading.{max_input}
 use Rattle.utopist_parser.specs.declared.tree.File.{File}
-use Rattle.utopist_parser.specs.Forms.{IsForm}
-use Rattle.concept_unfold.specs.ConceptRules.{FollowsConceptRules}
-use Rattle.concept_unfold.specs.UnfoldingRules.{FollowsUnfoldingRules}
+use Rattle.utopist_parser.specs.Forms.{ReadsAs}
+use Rattle.concept_unfold.specs.Rows.{AllHold}
+use Rattle.concept_unfold.specs.UnfoldingRules.{rules_of}
 
--- the bytes spell this file, and it breaks no rule
+-- the bytes are UTF-8, and their text reads as this file
 pub record Spells (bytes : List ℕ) (f : File) : Type 0 where
-  pub form : IsForm bytes f
-  pub concepts : FollowsConceptRules f
-  pub unfolded : FollowsUnfoldingRules f
+  pub utf8 : IsUtf8 bytes
+  pub tree : ReadsAs bytes f
 
--- so they do, and there are not too many
-abbrev pub Accepts : List ℕ → File → Type 0
-Accepts bytes f = (length bytes ≤ max_input) × Spells bytes f
+-- there are not too many bytes, they spell this file, and no rule fails for it
+pub record Accepts (bytes : List ℕ) (f : File) : Type 0 where
+  pub few : length bytes ≤ max_input
+  pub spelled : Spells bytes f
+  pub rules : AllHold (rules_of f)

@@ -1,6 +1,9 @@
 pub mod Words
 pub mod Accepted
+pub mod Refused
 pub mod Reports
-pub mod Outcomes
+pub mod Wordings
 pub mod Messages
+pub mod Outcomes
+pub mod Faults
 pub mod Steps

@@ -5,19 +5,14 @@ use Rattle.std.specs.Io.KnownBytes.{Keeps, Appends, IsAtEnd}
 use Rattle.priz_base.specs.Faults.{Rose}
 use Rattle.priz_base.specs.Reading.{max_input, Takes, TakesTooMany}
 use Rattle.priz_base.specs.Writing.{WritesPart}
-use Rattle.priz_base.specs.declared.place.Place.{Place}
 use Rattle.utopist_parser.specs.declared.tree.File.{File}
 use Rattle.answer_core.specs.declared.verdict.Answer.{Answer}
 use Rattle.priz_cli.specs.declared.outcome.Outcome.{Outcome}
 use Rattle.priz_cli.specs.declared.outcome.Outcome.TheVariants as outcome
-use Rattle.priz_cli.specs.declared.outcome.Refusal.TheVariants as refusal
 use Rattle.priz_cli.specs.Accepted.{Accepts}
+use Rattle.priz_cli.specs.Refused.{IsRefused}
 use Rattle.priz_cli.specs.Reports.{problems_of, AreAnswers, report_of}
 use Rattle.priz_cli.specs.Messages.{message_of}
-
--- the first byte's place
-abbrev pub first_place : Place
-first_place = record { at = 0; line = 1; col = 1 }
 
 -- the source was read to its end
 abbrev pub ReadOut : Option (List ℕ) → Option (List ℕ) → Type 0
@@ -25,16 +20,16 @@ ReadOut left left' = Takes max_input left left' × IsAtEnd left'
 
 -- what an outcome says of the bytes that were to be read, that are left, that were written and that are written
 abbrev pub Leaves : Outcome → Option (List ℕ) → Option (List ℕ) → Option (List ℕ) → Option (List ℕ) → Type 0
--- the bytes were accepted and read to the end, and the report of these answers was written
+-- the bytes were accepted and read to the end, and the report of these answers was written, one for each compute statement
 Leaves (outcome.Solved answers) left left' written written' =
     (f : File) × IfSome left (λ bytes. Accepts bytes f) × ReadOut left left' × AreAnswers (problems_of f) answers
     × Appends written written' (report_of (problems_of f) answers)
 -- nothing was read or written
 Leaves outcome.Usage left left' written written' = Keeps left left' × Keeps written written'
--- the bytes aren't accepted; they were read to the end, or one more than the limit was read
-Leaves (outcome.Refused r) left left' written written' =
-    (r ≡ refusal.Expected first_place) × IfSome left (λ bytes. (f : File) → ¬ Accepts bytes f)
-    × (ReadOut left left' ⊎ TakesTooMany left left') × Keeps written written'
+-- the bytes are refused for this cause, and were read to the end
+Leaves (outcome.Refused r) left left' written written' = IfSome left (λ bytes. IsRefused bytes r) × ReadOut left left' × Keeps written written'
+-- one byte more than the limit was read
+Leaves outcome.InputTooLong left left' written written' = TakesTooMany left left' × Keeps written written'
 -- some bytes were read
 Leaves outcome.ReadFault left left' written written' = Takes max_input left left' × Keeps written written'
 -- the bytes were accepted and read to the end, and a proper prefix of a report of right answers was written
@@ -57,6 +52,7 @@ abbrev pub IsAnswered : Outcome → Type 0
 IsAnswered (outcome.Solved answers) = Unit {0}
 IsAnswered outcome.Usage = ⊥
 IsAnswered (outcome.Refused r) = ⊥
+IsAnswered outcome.InputTooLong = ⊥
 IsAnswered outcome.ReadFault = ⊥
 IsAnswered outcome.WriteFault = ⊥
 IsAnswered outcome.NoMem = Unit {0}
@@ -69,3 +65,4 @@ status_of (outcome.Refused r) = 3
 status_of outcome.ReadFault = 4
 status_of outcome.WriteFault = 5
 status_of outcome.NoMem = 6
+status_of outcome.InputTooLong = 7

@@ -1,5 +1,5 @@
 -- Answers to several problems, and their report.
-use Rattle.std.specs.Prelude.{ℕ, ◌+◌, List, [], ◌∷◌, ◌++◌}
+use Rattle.std.specs.Prelude.{ℕ, ◌+◌, List, [], ◌∷◌, ◌++◌, map}
 use Rattle.utopist_parser.specs.declared.tree.File.{File}
 use Rattle.statement_set.specs.Problem.{Task}
 use Rattle.concept_unfold.specs.Unfolded.{problem_of}
@@ -7,9 +7,9 @@ use Rattle.answer_core.specs.declared.verdict.Answer.{Answer}
 use Rattle.answer_core.specs.Answers.{IsAnswer}
 use Rattle.answer_core.specs.Report.{answer_text}
 
--- the problems of a file's compute statements
+-- the problems of a file's compute statements, in order
 abbrev pub problems_of : File → List Task
-problems_of f = problem_of f ∷ []
+problems_of f = map (problem_of f) f.computes
 
 -- each problem has its answer, in order
 abbrev pub AreAnswers : List Task → List Answer → Type 0

@@ -1,14 +1,17 @@
-//! `priz`: answers the compute statement of a file of concepts, by a program with its proof or by a countermodel.
+//! `priz`: answers the compute statements of a file of concepts, by programs with their proofs or by countermodels.
 #![tactic(auto)]
 
 mod fault;
 mod input;
 mod message;
 mod outcome;
+mod problems;
+mod refusal;
 mod solution;
 #[cfg(test)]
 mod tests;
 mod top;
+mod wording;
 mod words;
 
 use priz_base::{StdSink, StdSource};

@@ -2,9 +2,11 @@ ghost use Rattle.std.specs.Prelude.{◌≡◌, ◌≤◌, false, IsTrue};
 ghost use Rattle.std.specs.Io.KnownBytes.{Appends};
 ghost use Rattle.priz_base.specs.Faults.{Rose};
 ghost use Rattle.priz_base.specs.Writing.{WritesPart};
-ghost use Rattle.priz_cli.specs.Messages.{message_of, placed_text, joined};
+ghost use Rattle.priz_cli.specs.Messages.{message_of, refusal_text, utf8_text, placed_text, joined};
 
-use crate::outcome::{Outcome, Refusal};
+use crate::outcome::Outcome;
+use crate::refusal::Refusal;
+use crate::wording::{lex_text, rule_text};
 use itoa::Buffer;
 use priz_base::{Place, Sink, write_all};
 
@@ -18,9 +20,8 @@ pub fn message<K: Sink>(outcome: &Outcome, sink: &mut K) -> bool
     match outcome {
         Outcome::Solved(_) => write_all(sink, b""),
         Outcome::Usage => write_all(sink, USAGE),
-        Outcome::Refused(Refusal::Expected(place)) => {
-            write_placed(*place, b"unexpected token", sink)
-        }
+        Outcome::Refused(refusal) => write_refusal(*refusal, sink),
+        Outcome::InputTooLong => write_all(sink, b"priz: input too long\n"),
         Outcome::ReadFault => write_all(sink, b"priz: read fault\n"),
         Outcome::WriteFault => write_all(sink, b"priz: write fault\n"),
         Outcome::NoMem => write_all(sink, b"priz: out of memory\n"),
@@ -29,6 +30,35 @@ pub fn message<K: Sink>(outcome: &Outcome, sink: &mut K) -> bool
 
 const USAGE: &[u8] =
     b"priz: usage: priz MODE [COUNT] [--budget N] [--turns N] [--explain] [--code]\n";
+
+fn write_refusal<K: Sink>(refusal: Refusal, sink: &mut K) -> bool
+    ensures whole { IsTrue result → Appends (K.written sink.old) (K.written sink.new) (refusal_text refusal) }
+    ensures part { result ≡ false → WritesPart (K.written sink.old) (K.written sink.new) (refusal_text refusal) }
+    ensures later { K.faults sink.old ≤ K.faults sink.new }
+    ensures fault { result ≡ false → Rose (K.faults sink.old) (K.faults sink.new) }
+{
+    match refusal {
+        Refusal::NotUtf8(at) => write_not_utf8(at, sink),
+        Refusal::Lex(fault) => write_placed(fault.place, lex_text(fault.kind), sink),
+        Refusal::Expected(place) => write_placed(place, b"unexpected token", sink),
+        Refusal::Model(fault) => write_placed(fault.place, rule_text(fault.rule), sink),
+    }
+}
+
+fn write_not_utf8<K: Sink>(at: u32, sink: &mut K) -> bool
+    ensures whole { IsTrue result → Appends (K.written sink.old) (K.written sink.new) (utf8_text at) }
+    ensures part { result ≡ false → WritesPart (K.written sink.old) (K.written sink.new) (utf8_text at) }
+    ensures later { K.faults sink.old ≤ K.faults sink.new }
+    ensures fault { result ≡ false → Rose (K.faults sink.old) (K.faults sink.new) }
+{
+    let mut byte = Buffer::new();
+    let pieces = [
+        b"priz: byte ".as_slice(),
+        byte.format(at).as_bytes(),
+        b": not UTF-8\n".as_slice(),
+    ];
+    write_pieces(&pieces, sink)
+}
 
 // What is wrong at a place.
 fn write_placed<K: Sink>(place: Place, what: &[u8], sink: &mut K) -> bool

@@ -1,16 +1,9 @@
 ghost use Rattle.std.specs.Prelude.{◌≡◌};
 ghost use Rattle.priz_cli.specs.Outcomes.{status_of};
 
+use crate::refusal::Refusal;
 use answer_core::Answer;
-use priz_base::Place;
 use sqlite_items::Items;
-
-/// Why an input is refused.
-#[derive(Clone, Copy, Debug, PartialEq, Eq)]
-pub enum Refusal {
-    /// This token cannot stand here.
-    Expected(Place),
-}
 
 /// What the program did.
 #[derive(Debug, Drop)]
@@ -21,6 +14,8 @@ pub enum Outcome {
     Usage,
     /// The input is no file that the program accepts.
     Refused(Refusal),
+    /// The input has more bytes than the limit.
+    InputTooLong,
     /// The input could not be read.
     ReadFault,
     /// The report could not be written whole.
@@ -40,5 +35,6 @@ pub fn status(outcome: &Outcome) -> u8
         Outcome::ReadFault => 4,
         Outcome::WriteFault => 5,
         Outcome::NoMem => 6,
+        Outcome::InputTooLong => 7,
     }
 }

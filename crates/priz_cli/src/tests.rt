@@ -1,13 +1,16 @@
 // Whole runs: what is written, with which status.
-use crate::outcome::{Outcome, status};
+use crate::outcome::status;
 use crate::top::{priz, run};
-use priz_base::{MAX_INPUT, MemSink, StdSource, SureSource};
+use priz_base::{MAX_INPUT, MemSink, MemSource, StdSource, SureSource};
 use std::alloc::Global;
 use std::io;
 use std::io::Read;
 use std::test::Fail;
 
-const MODEL: &str = "concept m : ( var a, b : numeric; rel r : a -> b; );";
+const ASKED: &[u8] =
+    b"concept m : ( var a, b : numeric; rel r : a -> b; ); compute m : ( given a; find b );";
+
+const SOLVED: &str = "compute 1: program separate\nproof {0;}\nno number: a\n";
 
 /// A reader that always fails.
 #[derive(Drop)]
@@ -27,77 +30,165 @@ fn words_of(alloc: Global, mode: &str) -> Result<Vec<String>, Fail> {
 }
 
 #[test]
-fn writes_the_report_or_the_message(rt: HostRuntime) -> Result<(), Fail> {
+fn writes_a_report(rt: HostRuntime) -> Result<(), Fail> {
     let alloc = rt.alloc();
-    let refused = "priz: line 1, column 1: unexpected token\n";
-    let usage = "priz: usage: priz MODE [COUNT] [--budget N] [--turns N] [--explain] [--code]\n";
-    let solved = "compute 1: program separate\nproof {0;}\nno number: a\n";
-    for (mode, goal, ended, want) in [
-        ("solve", "compute m : ( given a; find b );", 0, solved),
+    let model = "concept m : ( var a, b : numeric; rel r : a -> b; );";
+    let refused = "compute 1: no program\nworlds 0\n";
+    let both =
+        "compute 1: program separate\nproof {0;}\nno number: a\ncompute 2: no program\nworlds 0\n";
+    let no_body = "compute 1: program separate\nproof {0;}\nno body: statement 0\n";
+    for (concept, computes, want) in [
+        (model, "compute m : ( given a; find b );", SOLVED),
+        (model, "compute m : ( given a; find b ); # b", SOLVED),
+        (model, "compute m : ( find b );", refused),
         (
-            "solve",
-            "compute m : ( find b );",
-            0,
-            "compute 1: no program\nworlds 0\n",
+            model,
+            "compute m : ( given a; find b ); compute m : ( find b );",
+            both,
         ),
-        ("solve", "compute m : ( given a; find c );", 3, refused),
-        ("solve", "compute m : ( given a; find b ); #", 0, solved),
-        ("solve", "compute m : ( given a; find b )", 3, refused),
-        ("draw", "compute m : ( given a; find b );", 2, usage),
+        (
+            "concept m : ( var a : numeric; rel r : -> a; );",
+            "compute m : ( find a );",
+            no_body,
+        ),
+        (model, "", ""),
+        ("", "", ""),
     ] {
-        let text = format!(in alloc; "{MODEL} {goal}")?;
+        let text = format!(in alloc; "{concept}{computes}")?;
         let mut source = SureSource::new(text.as_bytes(), 7);
-        let mut sink = MemSink::new(alloc, 200, 10, &[]).expect(&rt, "room");
-        let outcome = run(alloc, &words_of(alloc, mode)?, &mut source, &mut sink);
-        assert_eq!(rt; status(&outcome), ended, "{mode} {goal}");
-        assert_eq!(rt; sink.written(), want.as_bytes(), "{mode} {goal}");
-    }
-    Ok(())
-}
-
-#[test]
-fn answers_an_operator_without_inputs(rt: HostRuntime) -> Result<(), Fail> {
-    let alloc = rt.alloc();
-    let text = b"concept m : ( var a : numeric; rel r : -> a; ); compute m : ( find a );";
-    let mut source = SureSource::new(text, 100);
-    let mut sink = MemSink::new(alloc, 100, 100, &[]).expect(&rt, "room");
-    let outcome = priz(alloc, &words_of(alloc, "solve")?, &mut source, &mut sink);
-    assert!(rt; matches!(outcome, Outcome::Solved(_)));
-    let want = b"compute 1: program separate\nproof {0;}\nno body: statement 0\n";
-    assert_eq!(rt; sink.written(), want.as_slice());
-    Ok(())
-}
-
-#[test]
-fn reads_as_many_bytes_as_the_limit(rt: HostRuntime) -> Result<(), Fail> {
-    let alloc = rt.alloc();
-    let mut text = format!(in alloc; "{MODEL} compute m : ( given a; find b );")?;
-    for _ in text.len()..MAX_INPUT {
-        text.push(' ')?;
-    }
-    for ended in [0, 3] {
-        let mut source = SureSource::new(text.as_bytes(), 5000);
-        let mut sink = MemSink::new(alloc, 100, 100, &[]).expect(&rt, "room");
+        let mut sink = MemSink::new(alloc, 100, 10, &[]).expect(&rt, "room");
         let outcome = run(alloc, &words_of(alloc, "solve")?, &mut source, &mut sink);
-        assert_eq!(rt; status(&outcome), ended);
-        text.push(' ')?;
+        assert_eq!(rt; status(&outcome), 0, "{text}");
+        assert_eq!(rt; sink.written(), want.as_bytes(), "{text}");
     }
     Ok(())
 }
 
 #[test]
-fn says_that_the_outside_failed(rt: HostRuntime) -> Result<(), Fail> {
+fn says_why_there_is_none(rt: HostRuntime) -> Result<(), Fail> {
+    let alloc = rt.alloc();
+    for (text, want) in [
+        ("concept m ( );", "line 1, column 11: unexpected token"),
+        ("concept m : (\n)", "line 2, column 2: unexpected token"),
+        ("concept é : ( ? );", "line 1, column 15: bad character"),
+        (
+            "concept m : ( var 1a : numeric; );",
+            "line 1, column 19: bad number",
+        ),
+        (
+            "concept m : ( 9223372036854775808 );",
+            "line 1, column 15: number too wide",
+        ),
+        (
+            "concept m : ( var a, a : numeric; );",
+            "line 1, column 22: duplicate name",
+        ),
+        (
+            "concept m : ( rel r : a -> b; );",
+            "line 1, column 23: unknown path",
+        ),
+        (
+            "compute m : ( find b );",
+            "line 1, column 9: unknown concept",
+        ),
+        // The rules of unfolding come behind those of concepts, and before the first answer.
+        (
+            "concept m : ( var a : numeric; );\ncompute m : ( find a );\ncompute m : ( given a, a; find a );",
+            "line 3, column 24: duplicate input",
+        ),
+        (
+            "concept m : ( var a : numeric; );\ncompute m : ( given a, a; find a );\ncompute m : ( find c );",
+            "line 3, column 20: unknown path",
+        ),
+    ] {
+        let line = format!(in alloc; "priz: {want}\n")?;
+        let mut source = SureSource::new(text.as_bytes(), 7);
+        let mut sink = MemSink::new(alloc, 100, 10, &[]).expect(&rt, "room");
+        let outcome = run(alloc, &words_of(alloc, "solve")?, &mut source, &mut sink);
+        assert_eq!(rt; status(&outcome), 3, "{text}");
+        assert_eq!(rt; sink.written(), line.as_bytes(), "{text}");
+    }
+    Ok(())
+}
+
+#[test]
+fn says_what_is_wrong_with_the_bytes(rt: HostRuntime) -> Result<(), Fail> {
+    let alloc = rt.alloc();
+    let mut full = Vec::from_slice(alloc, ASKED)?;
+    for _ in ASKED.len()..MAX_INPUT {
+        full.push(b' ')?;
+    }
+    let mut more = full.clone()?;
+    more.push(b' ')?;
+    let mut broken = Vec::from_slice(alloc, ASKED)?;
+    broken.insert(7, 255)?;
+    let usage = "priz: usage: priz MODE [COUNT] [--budget N] [--turns N] [--explain] [--code]\n";
+    for (mode, bytes, ended, want) in [
+        ("draw", &broken, 2, usage),
+        ("solve", &broken, 3, "priz: byte 7: not UTF-8\n"),
+        ("solve", &more, 7, "priz: input too long\n"),
+        ("solve", &full, 0, SOLVED),
+    ] {
+        let mut source = SureSource::new(bytes, 5000);
+        let mut sink = MemSink::new(alloc, 100, 100, &[]).expect(&rt, "room");
+        let outcome = run(alloc, &words_of(alloc, mode)?, &mut source, &mut sink);
+        assert_eq!(rt; status(&outcome), ended, "{want}");
+        assert_eq!(rt; sink.written(), want.as_bytes());
+    }
+    Ok(())
+}
+
+#[test]
+fn says_that_the_source_failed(rt: HostRuntime) -> Result<(), Fail> {
     let alloc = rt.alloc();
     let words = words_of(alloc, "solve")?;
     let mut sink = MemSink::new(alloc, 100, 100, &[]).expect(&rt, "room");
     let outcome = run(alloc, &words, &mut StdSource::new(Broken), &mut sink);
     assert_eq!(rt; status(&outcome), 4);
     assert_eq!(rt; sink.written(), b"priz: read fault\n".as_slice());
-    let text = format!(in alloc; "{MODEL} compute m : ( given a; find b );")?;
-    let mut source = SureSource::new(text.as_bytes(), 100);
-    let mut sink = MemSink::new(alloc, 1000, 10, &[1]).expect(&rt, "room");
-    let outcome = priz(alloc, &words, &mut source, &mut sink);
-    assert_eq!(rt; status(&outcome), 5);
-    assert_eq!(rt; sink.written(), b"compute 1:".as_slice());
+    // The text has 85 bytes, and one more call finds its end.
+    for (most, at, ended, want) in [
+        (1, 0, 4, ""),
+        (1, 84, 4, ""),
+        (1, 85, 4, ""),
+        (1, 86, 0, SOLVED),
+        (10, 1, 4, ""),
+        (10, 9, 4, ""),
+        (10, 10, 0, SOLVED),
+    ] {
+        let fails = [at];
+        let mut source = MemSource::new(ASKED, most, &fails);
+        let mut sink = MemSink::new(alloc, 100, 100, &[]).expect(&rt, "room");
+        let outcome = priz(alloc, &words, &mut source, &mut sink);
+        assert_eq!(rt; status(&outcome), ended, "{most} {at}");
+        assert_eq!(rt; sink.written(), want.as_bytes(), "{most} {at}");
+    }
+    Ok(())
+}
+
+#[test]
+fn says_that_the_sink_failed(rt: HostRuntime) -> Result<(), Fail> {
+    let alloc = rt.alloc();
+    let words = words_of(alloc, "solve")?;
+    // The report has 52 bytes.
+    for (most, at, ended, written) in [
+        (1, 0, 5, 0),
+        (1, 51, 5, 51),
+        (1, 52, 0, 52),
+        (10, 1, 5, 10),
+        (10, 5, 5, 50),
+        (10, 6, 0, 52),
+    ] {
+        let fails = [at];
+        let mut source = SureSource::new(ASKED, 100);
+        let mut sink = MemSink::new(alloc, 1000, most, &fails).expect(&rt, "room");
+        let outcome = priz(alloc, &words, &mut source, &mut sink);
+        assert_eq!(rt; status(&outcome), ended, "{most} {at}");
+        assert_eq!(rt; sink.written().len(), written, "{most} {at}");
+        assert!(rt;
+            SOLVED.as_bytes().starts_with(sink.written()),
+            "{most} {at}"
+        );
+    }
     Ok(())
 }

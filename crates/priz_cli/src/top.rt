@@ -1,5 +1,6 @@
-ghost use Rattle.std.specs.Prelude.{◌≡◌, ◌≢◌, ◌≤◌, ◌↔◌, IfSome};
+ghost use Rattle.std.specs.Prelude.{◌≡◌, ◌≢◌, ◌≤◌, ◌↔◌, length, IfSome};
 ghost use Rattle.priz_base.specs.Faults.{Rose};
+ghost use Rattle.priz_base.specs.Reading.{max_input};
 ghost use Rattle.utopist_parser.specs.declared.tree.File.{File};
 ghost use Rattle.priz_cli.specs.Words.{IsSolve};
 ghost use Rattle.priz_cli.specs.Accepted.{Accepts};
@@ -9,10 +10,10 @@ ghost use Rattle.priz_cli.specs.Steps.{AcceptedOf};
 use crate::fault::Fault;
 use crate::input::file_of;
 use crate::message::message;
-use crate::outcome::{Outcome, Refusal};
+use crate::outcome::Outcome;
 use crate::solution::{Solution, solution_of};
 use crate::words::is_solve;
-use priz_base::{Place, ReadStop, Sink, Source, read_all, write_all};
+use priz_base::{ReadStop, Sink, Source, read_all, write_all};
 use std::alloc::Global;
 
 /// The whole program: does what the words ask for, and then writes the message of the outcome.
@@ -57,13 +58,6 @@ pub fn priz<S: Source, K: Sink>(
     solve(alloc, source, sink)
 }
 
-// The first byte's place.
-const START: Place = Place {
-    at: 0,
-    line: 1,
-    col: 1,
-};
-
 fn solve<S: Source, K: Sink>(alloc: Global, source: &mut S, sink: &mut K) -> Outcome
     ensures outcome { Leaves result (S.left source.old) (S.left source.new) (K.written sink.old) (K.written sink.new) }
     ensures mode { result ≢ Outcome.Usage }
@@ -75,12 +69,12 @@ fn solve<S: Source, K: Sink>(alloc: Global, source: &mut S, sink: &mut K) -> Out
     let bytes = match read_all(alloc, source) {
         Ok(bytes) => bytes,
         Err(ReadStop::ReadFault) => return Outcome::ReadFault,
-        Err(ReadStop::TooLong) => return Outcome::Refused(Refusal::Expected(START)),
+        Err(ReadStop::TooLong) => return Outcome::InputTooLong,
         Err(ReadStop::NoMem) => return Outcome::NoMem,
     };
     let Solution { answers, report } = match solution_of_bytes(alloc, &bytes) {
         Ok(solution) => solution,
-        Err(Fault::Refused) => return Outcome::Refused(Refusal::Expected(START)),
+        Err(Fault::Refused(refusal)) => return Outcome::Refused(refusal),
         Err(Fault::NoMem) => return Outcome::NoMem,
     };
     if write_all(sink, &report) {
@@ -91,6 +85,7 @@ fn solve<S: Source, K: Sink>(alloc: Global, source: &mut S, sink: &mut K) -> Out
 }
 
 fn solution_of_bytes(alloc: Global, bytes: &[u8]) -> Result<Solution, Fault>
+    requires few { length bytes.now ≤ max_input }
     ensures { AcceptedOf bytes.now result }
 {
     let file = file_of(alloc, bytes)?;

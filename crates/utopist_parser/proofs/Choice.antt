@@ -3,7 +3,7 @@ use Rattle.std.proofs.Common.{◌≡◌, ℕ, ◌≤◌, Bool, true, false, cond
 use Rattle.std.specs.Prelude.{◌⊎◌}
 use Rattle.utopist_parser.specs.Symbols.{Symbol}
 use Rattle.utopist_parser.specs.Steps.{Why, expected, deep, Fault, StepOf, give, next, meets, choose_at}
-use Rattle.utopist_parser.proofs.Laws.{AtHead, at_head, Form, Stuck, Further, Took, Blames, Laws, ok_is, same_next}
+use Rattle.utopist_parser.proofs.StepLaws.{AtHead, at_head, Form, Stuck, Further, Took, Blames, Laws, ok_is, same_next}
 
 module _ {X Y : Type 0} (g : Form X) (d : Form Y) where
   abbrev spell_either : X ⊎ Y → List Symbol

@@ -1,19 +1,22 @@
 -- The laws of a keyword, a mark or the end before another step, and of a name.
 use Rattle.std.proofs.Common.{◌≡◌, ℕ, Bool, true, false, cond, [], ◌∷◌, Option, Some, None, refl, sym, ap, ◌∙◌}
+use Rattle.std.specs.Prelude.{ℤ}
+use Rattle.std.proofs.lemmas.Bool.Decides.{Decides-int_eq}
 use Rattle.std.proofs.lemmas.Slice.Eq.{bytes_eq-Decides}
-use Rattle.utopist_parser.specs.declared.word.Word.{Word}
-use Rattle.utopist_parser.specs.declared.mark.Mark.{Mark}
-use Rattle.utopist_parser.specs.declared.token.Kind.{Kind}
-use Rattle.utopist_parser.specs.declared.token.Kind.TheVariants as kinds
+use Rattle.utopist_lexer.specs.declared.word.Word.{Word}
+use Rattle.utopist_lexer.specs.declared.mark.Mark.{Mark}
+use Rattle.utopist_lexer.specs.declared.token.Kind.{Kind}
+use Rattle.utopist_lexer.specs.declared.token.Kind.TheVariants as kinds
+use Rattle.utopist_lexer.specs.Places.{first_place}
 use Rattle.utopist_parser.specs.Named.{Named}
-use Rattle.utopist_parser.specs.Spelling.{word_text, mark_text}
-use Rattle.utopist_parser.specs.Kinds.{same_kind}
-use Rattle.utopist_parser.specs.Scanning.{word_of, mark_at}
+use Rattle.utopist_lexer.specs.Spelling.{word_text, mark_text}
+use Rattle.utopist_lexer.specs.Kinds.{same_kind}
+use Rattle.utopist_lexer.specs.Tables.{word_of, mark_at}
 use Rattle.utopist_parser.specs.Symbols.{Symbol, name, fixed}
 use Rattle.utopist_parser.specs.Steps.{StepOf, ◌>>=◌}
 use Rattle.utopist_parser.specs.Reading.{want_kind, want_name, fixed_at, name_at}
-use Rattle.utopist_parser.proofs.Spellings.{word_of-text, mark_at-text}
-use Rattle.utopist_parser.proofs.Laws.{Form, Laws}
+use Rattle.utopist_lexer.proofs.Spellings.{word_of-text, mark_at-text}
+use Rattle.utopist_parser.proofs.StepLaws.{Form, Laws}
 use Rattle.utopist_parser.proofs.Sequence.{both, then_laws}
 use Rattle.utopist_parser.proofs.Recast.{recast, recast_laws}
 use Rattle.utopist_parser.proofs.Tokens.{one_symbol, token_laws}
@@ -23,18 +26,22 @@ use Rattle.utopist_parser.proofs.Tokens.{one_symbol, token_laws}
 some_same : {X : Type 0} (x y : X) → ◌≡◌ {A = Option X} (Some x) (Some y) → x ≡ y
 some_same x y e = cc
 
-same_kind-true : (j k : Kind) → same_kind j k ≡ true → j ≡ k
+pub same_kind-true : (j k : Kind) → same_kind j k ≡ true → j ≡ k
 same_kind-true kinds.Name kinds.Name e = refl
 same_kind-true (kinds.Word v) (kinds.Word w) e =
     ap (λ (x : Word). kinds.Word x) (some_same v w (sym (word_of-text v) ∙ ap word_of ((bytes_eq-Decides (word_text v) (word_text w)).0 e) ∙ word_of-text w))
+same_kind-true (kinds.Number i) (kinds.Number j) e = ap (λ (x : ℤ). kinds.Number x) ((Decides-int_eq i j).0 e)
+same_kind-true (kinds.Sub i) (kinds.Sub j) e = ap (λ (x : ℤ). kinds.Sub x) ((Decides-int_eq i j).0 e)
 same_kind-true (kinds.Mark m) (kinds.Mark n) e =
     ap (λ (x : Mark). kinds.Mark x) (some_same m n (sym (mark_at-text m) ∙ ap mark_at ((bytes_eq-Decides (mark_text m) (mark_text n)).0 e) ∙ mark_at-text n))
 same_kind-true kinds.End kinds.End e = refl
 same_kind-true j k e = absurd cc
 
-same_kind-refl : (k : Kind) → same_kind k k ≡ true
+pub same_kind-refl : (k : Kind) → same_kind k k ≡ true
 same_kind-refl kinds.Name = refl
 same_kind-refl (kinds.Word w) = (bytes_eq-Decides (word_text w) (word_text w)).1 refl
+same_kind-refl (kinds.Number i) = (Decides-int_eq i i).1 refl
+same_kind-refl (kinds.Sub i) = (Decides-int_eq i i).1 refl
 same_kind-refl (kinds.Mark m) = (bytes_eq-Decides (mark_text m) (mark_text m)).1 refl
 same_kind-refl kinds.End = refl
 
@@ -77,9 +84,13 @@ name_finds : (c : Symbol) (n : Named) → want_name c ≡ Some n → (x : Named)
 name_finds (name m) n e = (m, refl, some_same m n e)
 name_finds (fixed k) n e = absurd cc
 
+-- some name
+abbrev pub some_name : Named
+some_name = record { text = []; place = first_place }
+
 abbrev pub name_form : Form Named
 name_form = one_symbol (λ n. name n)
 
 pub name_laws : (room : ℕ) → Laws name_form (λ n. n) name_at room
 unfolding name_at
-name_laws room = token_laws want_name (λ n. name n) (λ n. n) (λ n. refl) name_finds (record { text = []; at = 0 }) room
+name_laws room = token_laws want_name (λ n. name n) (λ n. n) (λ n. refl) name_finds some_name room

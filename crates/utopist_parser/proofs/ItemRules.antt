@@ -1,9 +1,9 @@
 -- The rules of items and of the concept.
 use Rattle.std.proofs.Common.{◌≡◌, true, List, [], ◌++◌, map, Option, Some, None, refl, inl, inr}
 use Rattle.std.specs.Prelude.{◌⊎◌}
-use Rattle.utopist_parser.specs.declared.word.Word.TheVariants as words
-use Rattle.utopist_parser.specs.declared.mark.Mark.TheVariants as marks
-use Rattle.utopist_parser.specs.declared.token.Kind.TheVariants as kinds
+use Rattle.utopist_lexer.specs.declared.word.Word.TheVariants as words
+use Rattle.utopist_lexer.specs.declared.mark.Mark.TheVariants as marks
+use Rattle.utopist_lexer.specs.declared.token.Kind.TheVariants as kinds
 use Rattle.utopist_parser.specs.declared.tree.Item.{Item}
 use Rattle.utopist_parser.specs.declared.tree.Item.TheVariants as items
 use Rattle.utopist_parser.specs.declared.tree.Concept.{Concept}
@@ -12,7 +12,7 @@ use Rattle.utopist_parser.specs.Symbols.{Symbol, mark}
 use Rattle.utopist_parser.specs.Grammar.{Names, ItemText, var, rel, ConceptText, spell_item, spell_concept, see_names, see_some, see_item, see_concept}
 use Rattle.utopist_parser.specs.Steps.{next, meets}
 use Rattle.utopist_parser.specs.Reading.{is_kind, inputs_at, var_at, rel_at, item_at, begins_item, items_at, concept_at}
-use Rattle.utopist_parser.proofs.Laws.{Form}
+use Rattle.utopist_parser.proofs.StepLaws.{Form}
 use Rattle.utopist_parser.proofs.Sequence.{both}
 use Rattle.utopist_parser.proofs.Recast.{recast}
 use Rattle.utopist_parser.proofs.Choice.{either, see_either}

@@ -1,20 +1,20 @@
+mod CaseLaws
 mod Choice
 mod ComputeRules
 mod FileRules
 mod Fixed
-mod Gap
 mod ItemRules
-mod Laws
-mod Longest
 mod Loops
 mod NameRules
+mod NoEnd
+mod Places
 mod Recast
 mod Repeat
 mod Rules
-mod Scan
+mod SameForms
+mod Scanning
 mod Sequence
-mod Spellings
 mod Starts
+mod StepLaws
 mod Tokens
-pub mod Wants
 mod Whole

@@ -3,10 +3,9 @@ use Rattle.std.proofs.Common.{◌≡◌, ℕ, zero, suc, ◌≤◌, ◌<◌, Boo
 use Rattle.std.proofs.lemmas.List.{append-nil, length-map}
 use Rattle.utopist_parser.specs.declared.stop.Stop.{Stop}
 use Rattle.utopist_parser.specs.declared.stop.Stop.TheVariants as stop
-use Rattle.utopist_parser.specs.declared.token.Token.{Token}
-use Rattle.utopist_parser.specs.Views.{tok}
-use Rattle.utopist_parser.specs.Symbols.{Symbol, symbol_of, symbols}
-use Rattle.utopist_parser.specs.Steps.{Reading, StepOf, expected, on_ok, next, meets, repeat_fuel}
+use Rattle.utopist_lexer.specs.declared.token.Token.{Token}
+use Rattle.utopist_parser.specs.Symbols.{Symbol, symbol, symbols}
+use Rattle.utopist_parser.specs.Steps.{Reading, StepOf, expected, on_ok, next, meets, repeat_fuel, repeat_at}
 use Rattle.utopist_parser.specs.Answers.{Fails}
 
 -- what was read before, and what is still read
@@ -23,7 +22,7 @@ with_front-nil (Err e) = refl
 
 -- fewer tokens have fewer symbols
 pub fewer : (ts us : List Token) → length ts < length us → length (symbols ts) < length (symbols us)
-fewer ts us h = omega (arith, length-map ts (λ (t : Token). symbol_of (tok t)), length-map us (λ (t : Token). symbol_of (tok t)))
+fewer ts us h = omega (arith, length-map ts symbol, length-map us symbol)
 
 module _ {V : Type 0} (begins : Symbol → Bool) (f : StepOf V) (room : ℕ) where
   -- the parts so far, and those that still come, of which there is room for all
@@ -66,3 +65,13 @@ module _ {V : Type 0} (begins : Symbol → Bool) (f : StepOf V) (room : ℕ) whe
   pub fails : (e : Stop) (front : List V) (ts : List Symbol) (total : Reading (List V)) → true ≡ meets begins (next ts) → Fails e (f room ts) → SoFar front ts total → Fails e total
   fails stop.NoMem front ts total starts h so_far = tt
   fails (stop.Expected left) front ts total starts h so_far = fails-at so_far.fuel left front ts total starts h so_far.enough so_far.gives
+
+  -- the first part, where one begins
+  pub first_part : (ts : List Symbol) (v : V) (rest : List Symbol) → true ≡ meets begins (next ts) → f room ts ≡ Ok (v, rest) → length rest < length ts → SoFar (v ∷ []) rest (repeat_at begins f room ts)
+  first_part ts v rest starts e shorter = goes_on [] ts v rest (repeat_at begins f room ts) starts e shorter (record { fuel = length ts; enough = omega arith; gives = with_front-nil (repeat_at begins f room ts) })
+
+  pub no_first_part : (e : Stop) (ts : List Symbol) → true ≡ meets begins (next ts) → Fails e (f room ts) → Fails e (repeat_at begins f room ts)
+  no_first_part e ts starts h = fails e [] ts (repeat_at begins f room ts) starts h (record { fuel = length ts; enough = omega arith; gives = with_front-nil (repeat_at begins f room ts) })
+
+  pub no_part : (ts : List Symbol) → false ≡ meets begins (next ts) → repeat_at begins f room ts ≡ Ok ([], ts)
+  no_part ts stops = ends [] ts (repeat_at begins f room ts) stops (record { fuel = length ts; enough = omega arith; gives = with_front-nil (repeat_at begins f room ts) })

@@ -2,7 +2,7 @@
 use Rattle.std.proofs.Common.{◌≡◌, ℕ, List, ◌++◌, Ok, Err, sym, ap, subst, ◌∙◌}
 use Rattle.utopist_parser.specs.Symbols.{Symbol}
 use Rattle.utopist_parser.specs.Steps.{Why, expected, deep, Fault, Reading, StepOf, next}
-use Rattle.utopist_parser.proofs.Laws.{at_head, Form, Further, Took, Blames, Laws}
+use Rattle.utopist_parser.proofs.StepLaws.{at_head, Form, Further, Took, Blames, Laws}
 
 -- the same parts, of another type
 abbrev pub recast : {X C : Type 0} → Form X → (C → List Symbol) → (C → X) → Form C

@@ -5,7 +5,7 @@ use Rattle.std.specs.List.{flat_map}
 use Rattle.std.proofs.lemmas.List.{append-nil}
 use Rattle.utopist_parser.specs.Symbols.{Symbol}
 use Rattle.utopist_parser.specs.Steps.{Why, expected, deep, Fault, Reading, StepOf, on_ok, next, meets, repeat_fuel, repeat_at}
-use Rattle.utopist_parser.proofs.Laws.{Reaches, reaches_up, AtHead, at_head, Form, Stuck, Further, Took, Blames, Laws, ok_is, then_ok, then_err, same_next}
+use Rattle.utopist_parser.proofs.StepLaws.{Reaches, reaches_up, AtHead, at_head, Form, Stuck, Further, Took, Blames, Laws, ok_is, then_ok, then_err, same_next}
 
 -- what begins has a symbol
 begins_some : (begins : Symbol → Bool) (ts : List Symbol) → meets begins (next ts) ≡ true → 1 ≤ length ts

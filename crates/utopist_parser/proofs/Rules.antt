@@ -1,20 +1,20 @@
 -- Rules on which nothing nests: a form, what it means, and the step that reads it.
 use Rattle.std.proofs.Common.{◌≡◌, ℕ, Bool, true, false, List, [], ◌∷◌, ◌++◌, map, Option, Some, None, refl, inl, inr}
 use Rattle.std.specs.Prelude.{◌⊎◌}
-use Rattle.utopist_parser.specs.declared.word.Word.{Word}
-use Rattle.utopist_parser.specs.declared.mark.Mark.{Mark}
-use Rattle.utopist_parser.specs.declared.token.Kind.{Kind}
-use Rattle.utopist_parser.specs.declared.token.Kind.TheVariants as kinds
+use Rattle.utopist_lexer.specs.declared.word.Word.{Word}
+use Rattle.utopist_lexer.specs.declared.mark.Mark.{Mark}
+use Rattle.utopist_lexer.specs.declared.token.Kind.{Kind}
+use Rattle.utopist_lexer.specs.declared.token.Kind.TheVariants as kinds
 use Rattle.utopist_parser.specs.Symbols.{Symbol}
 use Rattle.utopist_parser.specs.Grammar.{spell_optional, see_optional}
 use Rattle.utopist_parser.specs.Steps.{StepOf, ◌>>=◌, give, next, meets, choose_at, repeat_at}
 use Rattle.utopist_parser.specs.Reading.{fixed_at, name_at}
-use Rattle.utopist_parser.proofs.Laws.{Form, Laws}
+use Rattle.utopist_parser.proofs.StepLaws.{Form, Laws}
 use Rattle.utopist_parser.proofs.Sequence.{both, then_laws, map_laws}
 use Rattle.utopist_parser.proofs.Recast.{recast, recast_laws}
 use Rattle.utopist_parser.proofs.Choice.{either, see_either, choose_laws, nothing, give_laws}
 use Rattle.utopist_parser.proofs.Repeat.{repeated, repeat_laws}
-use Rattle.utopist_parser.proofs.Fixed.{after, after_laws, name_form, name_laws}
+use Rattle.utopist_parser.proofs.Fixed.{after, after_laws, some_name, name_form, name_laws}
 
 -- any symbol may stand there
 abbrev Any : Option Symbol → Type 0
@@ -30,7 +30,7 @@ pub record Rule {X V : Type 0} (g : Form X) (see : X → V) (f : StepOf V) : Typ
 -- ---- one symbol
 
 pub name_rule : Rule name_form (λ n. n) name_at
-name_rule = record { laws = name_laws; some = record { text = []; at = 0 }; fits = λ n M. tt; enters = λ o. tt }
+name_rule = record { laws = name_laws; some = some_name; fits = λ n M. tt; enters = λ o. tt }
 
 -- a fixed symbol, and then what follows
 after_rule : {Y V : Type 0} {d : Form Y} {see : Y → V} {f : StepOf V} (k : Kind) → (k ≡ kinds.Name → ⊥) → Rule d see f → Rule (after k d) see (fixed_at k >>= λ u. f)

@@ -2,7 +2,7 @@
 use Rattle.std.proofs.Common.{◌≡◌, ℕ, List, [], ◌∷◌, ◌++◌, Option, Ok, Err, refl, sym, ap, subst, ◌∙◌, append_assoc, inl, inr}
 use Rattle.utopist_parser.specs.Symbols.{Symbol}
 use Rattle.utopist_parser.specs.Steps.{Why, expected, deep, Fault, StepOf, ◌>>=◌, give, next}
-use Rattle.utopist_parser.proofs.Laws.{reaches_up, AtHead, at_head, Form, Stuck, Further, Took, Blames, Laws, ok_is, then_ok, then_err, same_next}
+use Rattle.utopist_parser.proofs.StepLaws.{reaches_up, AtHead, at_head, Form, Stuck, Further, Took, Blames, Laws, ok_is, then_ok, then_err, same_next}
 
 module _ {X Y : Type 0} (g : Form X) (d : Form Y) where
   -- one part after another

@@ -2,7 +2,7 @@
 use Rattle.std.proofs.Common.{◌≡◌, ℕ, suc, List, [], ◌∷◌, length, Option, Some, None, Ok, Err, refl, ap, subst, ◌∙◌, arith}
 use Rattle.utopist_parser.specs.Symbols.{Symbol}
 use Rattle.utopist_parser.specs.Steps.{expected, Fault, Reading, token_value, token_at}
-use Rattle.utopist_parser.proofs.Laws.{Form, Took, Blames, Laws, failed_is, ok_is}
+use Rattle.utopist_parser.proofs.StepLaws.{Form, Took, Blames, Laws, failed_is, ok_is}
 
 -- a part that is one symbol
 abbrev pub one_symbol : {X : Type 0} → (X → Symbol) → Form X

@@ -1,8 +1,8 @@
 -- The grammar: what is written by each rule, its symbols, and the tree that it stands for.
 use Rattle.std.specs.Prelude.{List, [], ◌∷◌, ◌++◌, map, Option, Some, None}
 use Rattle.std.specs.List.{flat_map}
-use Rattle.utopist_parser.specs.declared.word.Word.TheVariants as words
-use Rattle.utopist_parser.specs.declared.mark.Mark.TheVariants as marks
+use Rattle.utopist_lexer.specs.declared.word.Word.TheVariants as words
+use Rattle.utopist_lexer.specs.declared.mark.Mark.TheVariants as marks
 use Rattle.utopist_parser.specs.declared.tree.Item.{Item}
 use Rattle.utopist_parser.specs.declared.tree.Item.TheVariants as items
 use Rattle.utopist_parser.specs.declared.tree.Concept.{Concept}
@@ -34,10 +34,10 @@ pub record ComputeText : Type 0 where
   pub givens : Option Names
   pub wants : Names
 
--- file = concept compute End
+-- file = {concept} {compute} End
 pub record FileText : Type 0 where
-  pub concept : ConceptText
-  pub compute : ComputeText
+  pub concepts : List ConceptText
+  pub computes : List ComputeText
 
 -- ---- its symbols
 
@@ -76,9 +76,9 @@ spell_compute c =
     word words.Compute ∷ name c.name ∷ mark marks.Colon ∷ mark marks.OpenRound
     ∷ (spell_optional spell_given c.givens ++ (word words.Find ∷ (spell_names c.wants ++ (mark marks.CloseRound ∷ mark marks.Semicolon ∷ []))))
 
--- concept compute End
+-- {concept} {compute} End
 abbrev pub spell_file : FileText → List Symbol
-spell_file f = spell_concept f.concept ++ (spell_compute f.compute ++ (end ∷ []))
+spell_file f = flat_map spell_concept f.concepts ++ (flat_map spell_compute f.computes ++ (end ∷ []))
 
 -- ---- its tree
 
@@ -110,4 +110,4 @@ see_compute c = record { name = c.name; givens = see_some c.givens; wants = see_
 
 -- the tree of a file
 abbrev pub see_file : FileText → File
-see_file f = record { concept = see_concept f.concept; compute = see_compute f.compute }
+see_file f = record { concepts = map see_concept f.concepts; computes = map see_compute f.computes }

@@ -1,13 +1,9 @@
 pub mod Named
-pub mod Spelling
-pub mod Kinds
-pub mod Characters
-pub mod Gap
-pub mod Lexical
-pub mod Scanning
-pub mod Views
 pub mod Symbols
+pub mod Views
 pub mod Grammar
+pub mod Begins
+pub mod Cases
 pub mod Forms
 pub mod Steps
 pub mod Reading

@@ -1,16 +1,16 @@
 -- Reading each rule of the grammar from left to right.
 use Rattle.std.specs.Prelude.{Bool, ◌||◌, if◌then◌else◌, List, [], ◌∷◌, Option, Some, None}
-use Rattle.utopist_parser.specs.declared.word.Word.TheVariants as words
-use Rattle.utopist_parser.specs.declared.mark.Mark.TheVariants as marks
-use Rattle.utopist_parser.specs.declared.token.Kind.{Kind}
-use Rattle.utopist_parser.specs.declared.token.Kind.TheVariants as kinds
+use Rattle.utopist_lexer.specs.declared.word.Word.TheVariants as words
+use Rattle.utopist_lexer.specs.declared.mark.Mark.TheVariants as marks
+use Rattle.utopist_lexer.specs.declared.token.Kind.{Kind}
+use Rattle.utopist_lexer.specs.declared.token.Kind.TheVariants as kinds
 use Rattle.utopist_parser.specs.declared.tree.Item.{Item}
 use Rattle.utopist_parser.specs.declared.tree.Item.TheVariants as items
 use Rattle.utopist_parser.specs.declared.tree.Concept.{Concept}
 use Rattle.utopist_parser.specs.declared.tree.Compute.{Compute}
 use Rattle.utopist_parser.specs.declared.tree.File.{File}
 use Rattle.utopist_parser.specs.Named.{Named}
-use Rattle.utopist_parser.specs.Kinds.{same_kind}
+use Rattle.utopist_lexer.specs.Kinds.{same_kind}
 use Rattle.utopist_parser.specs.Symbols.{Symbol, name, fixed}
 use Rattle.utopist_parser.specs.Steps.{StepOf, ◌>>=◌, give, token_at, choose_at, repeat_at}
 
@@ -134,10 +134,26 @@ compute_at = do
   u ← fixed_at (kinds.Mark marks.Semicolon)
   give (record { name = n; givens = gs; wants = ws })
 
--- file = concept compute End
+-- whether a symbol begins a concept
+abbrev pub begins_concept : Symbol → Bool
+begins_concept = is_kind (kinds.Word words.Concept)
+
+-- {concept}
+unfoldable pub concepts_at : StepOf (List Concept)
+concepts_at = repeat_at begins_concept concept_at
+
+-- whether a symbol begins a compute statement
+abbrev pub begins_compute : Symbol → Bool
+begins_compute = is_kind (kinds.Word words.Compute)
+
+-- {compute}
+unfoldable pub computes_at : StepOf (List Compute)
+computes_at = repeat_at begins_compute compute_at
+
+-- file = {concept} {compute} End
 unfoldable pub file_at : StepOf File
 file_at = do
-  c ← concept_at
-  d ← compute_at
+  cs ← concepts_at
+  ds ← computes_at
   u ← fixed_at kinds.End
-  give (record { concept = c; compute = d })
+  give (record { concepts = cs; computes = ds })

@@ -1,19 +1,31 @@
--- Tokens without where their text lies in memory.
-use Rattle.std.specs.Prelude.{◌≡◌, ℕ, List, [], ◌∷◌, ◌++◌, length, map, Option, Some, None}
-use Rattle.std.specs.Global.{Vec}
-use Rattle.utopist_parser.specs.declared.token.Kind.TheVariants as kinds
-use Rattle.utopist_parser.specs.declared.token.Token.{Token}
-use Rattle.utopist_parser.specs.Lexical.{Tok, Reads}
+-- The tokens of a text as they are found.
+use Rattle.std.specs.Prelude.{◌≡◌, ℕ, List, [], ◌∷◌, ◌++◌, map, Option, Some, None}
+use Rattle.priz_base.specs.declared.place.Place.{Place}
+use Rattle.utopist_lexer.specs.declared.token.Kind.TheVariants as kinds
+use Rattle.utopist_lexer.specs.declared.token.Token.{Token}
+use Rattle.utopist_lexer.specs.declared.fault.LexFault.{LexFault}
+use Rattle.utopist_lexer.specs.Places.{Stands}
+use Rattle.utopist_lexer.specs.Lexical.{Tok}
+use Rattle.utopist_lexer.specs.Tokens.{Reads, FaultAt}
+use Rattle.utopist_lexer.specs.Scanning.{tok}
+use Rattle.utopist_parser.specs.Symbols.{symbol_of, symbols}
 
--- a token without where its text lies
-abbrev pub tok : Token → Tok
-tok t = record { kind = t.kind; text = t.text.now; at = t.at }
+-- the end of a text, at its place
+abbrev pub end_at : Place → Tok
+end_at p = record { kind = kinds.End; text = []; place = p }
 
--- the token behind the last of a text
-abbrev pub end_of : List ℕ → Tok
-end_of text = record { kind = kinds.End; text = []; at = length text }
+-- the tokens of a text and its end, or those before its first fault
+pub record WholeTokens (text : List ℕ) (items : List Token) : Type 0 where
+  pub tokens : List Tok
+  pub place : Place
+  pub are : map tok items ≡ tokens ++ end_at place ∷ []
+  pub read : Reads text tokens
+  pub stands : Stands text [] place
 
--- the one list of tokens of a text with the end behind it, or none where it has no such list
-abbrev pub TokensOf : List ℕ → Option (Vec Token) → Type 0
-TokensOf text None = (ts : List Tok) → Reads text ts → ⊥
-TokensOf text (Some v) = (ts : List Tok) × (map tok v.items ≡ ts ++ (end_of text ∷ [])) × Reads text ts × ((us : List Tok) → Reads text us → us ≡ ts)
+pub record FaultyTokens (text : List ℕ) (items : List Token) (f : LexFault) : Type 0 where
+  pub fault : FaultAt text (map tok items) f.place f.kind
+
+-- these are the tokens of a text, up to its end or its first fault
+abbrev pub TokensOf : List ℕ → List Token → Option LexFault → Type 0
+TokensOf text items None = WholeTokens text items × (symbols items ≡ map symbol_of (map tok items))
+TokensOf text items (Some f) = FaultyTokens text items f × (symbols items ≡ map symbol_of (map tok items))

@@ -1,26 +1,58 @@
-//! Reading a concept.
-ghost use Rattle.std.specs.Prelude.{◌≡◌, ◌<◌, ◌≤◌, length, IfOk};
+//! Reading concepts.
+ghost use Rattle.std.specs.Prelude.{◌≡◌, ◌<◌, ◌≤◌, true, length, IfOk};
 ghost use Rattle.utopist_parser.specs.Answers.{Gives};
-ghost use Rattle.utopist_parser.specs.Reading.{var_at, rel_at, item_at, begins_item, items_at, concept_at};
+ghost use Rattle.utopist_parser.specs.Reading.{var_at, rel_at, item_at, begins_item, items_at, concept_at, begins_concept, concepts_at};
 ghost use Rattle.utopist_parser.specs.Steps.{next, meets};
 ghost use Rattle.utopist_parser.specs.Symbols.{symbols};
 
-use crate::mark::Mark;
 use crate::names::{inputs_at, names_at};
 use crate::step::{fixed_at, name_at, next_is};
 use crate::stop::Stop;
-use crate::token::{Kind, Token};
 use crate::tree::{Concept, Item};
-use crate::word::Word;
 use sqlite_items::Items;
 use std::alloc::Global;
+use utopist_lexer::{Kind, Mark, Token, Word};
+
+const CONCEPT: Kind = Kind::Word(Word::Concept);
+
+pub fn concepts_at<'t, 'a>(
+    alloc: Global,
+    tokens: &'t [Token<'a>],
+) -> Result<(Items<Concept>, &'t [Token<'a>]), Stop>
+    ensures { Gives (λ x. (x.0, symbols x.1.now)) result (concepts_at 0 (symbols tokens.entry.now)) }
+{
+    if next_is(tokens, CONCEPT) {
+        some_concepts_at(alloc, tokens)
+    } else {
+        Ok((Items::new(alloc), tokens))
+    }
+}
+
+fn some_concepts_at<'t, 'a>(
+    alloc: Global,
+    tokens: &'t [Token<'a>],
+) -> Result<(Items<Concept>, &'t [Token<'a>]), Stop>
+    requires { meets begins_concept (next (symbols tokens.now)) ≡ true }
+    ensures { Gives (λ x. (x.0, symbols x.1.now)) result (concepts_at 0 (symbols tokens.entry.now)) }
+{
+    let (first, mut rest) = concept_at(alloc, tokens)?;
+    let mut found = Items::new(alloc);
+    found.push(first)?;
+    'concepts: while next_is(rest, CONCEPT) {
+        let (concept, after) = concept_at(alloc, rest)?;
+        found.push(concept)?;
+        rest = after;
+    }
+    Ok((found, rest))
+}
 
 #[tactic(auto, unfolding(crate::specs::Reading::concept_at))]
-pub fn concept_at<'t, 'a>(
+fn concept_at<'t, 'a>(
     alloc: Global,
     tokens: &'t [Token<'a>],
 ) -> Result<(Concept, &'t [Token<'a>]), Stop>
-    ensures { Gives (λ x. (x.0, symbols x.1.now)) result (concept_at 0 (symbols tokens.entry.now)) }
+    ensures gives { Gives (λ x. (x.0, symbols x.1.now)) result (concept_at 0 (symbols tokens.entry.now)) }
+    ensures shorter { IfOk result (λ x. length x.1.now < length tokens.entry.now) }
 {
     let rest = fixed_at(tokens, Kind::Word(Word::Concept))?;
     let (name, rest) = name_at(alloc, rest)?;
@@ -36,7 +68,8 @@ fn items_at<'t, 'a>(
     alloc: Global,
     tokens: &'t [Token<'a>],
 ) -> Result<(Items<Item>, &'t [Token<'a>]), Stop>
-    ensures { Gives (λ x. (x.0, symbols x.1.now)) result (items_at 0 (symbols tokens.entry.now)) }
+    ensures gives { Gives (λ x. (x.0, symbols x.1.now)) result (items_at 0 (symbols tokens.entry.now)) }
+    ensures shorter { IfOk result (λ x. length x.1.now < length tokens.entry.now) }
 {
     let mut found = Items::new(alloc);
     let mut rest = fixed_at(tokens, Kind::Mark(Mark::OpenRound))?;

@@ -1,19 +1,19 @@
-//! Reading a file of one concept and one compute statement.
+//! Reading a file of concepts and compute statements.
 #![tactic(auto)]
 
 mod compute;
 mod concept;
-mod mark;
+mod file;
+mod laws;
 mod names;
 mod parser;
-mod scanner;
+mod scan;
 mod step;
 mod stop;
 #[cfg(test)]
 mod tests;
-mod token;
 mod tree;
-mod word;
 
+pub use laws::symbols_begin_what_goes_on;
 pub use parser::{ParseFault, parse};
 pub use tree::{Compute, Concept, File, Item, Name};

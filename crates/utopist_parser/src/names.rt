@@ -4,13 +4,12 @@ ghost use Rattle.utopist_parser.specs.Answers.{Gives};
 ghost use Rattle.utopist_parser.specs.Reading.{next_name_at, names_at, inputs_at};
 ghost use Rattle.utopist_parser.specs.Symbols.{symbols};
 
-use crate::mark::Mark;
 use crate::step::{fixed_at, name_at, next_is};
 use crate::stop::Stop;
-use crate::token::{Kind, Token};
 use crate::tree::Name;
 use sqlite_items::Items;
 use std::alloc::Global;
+use utopist_lexer::{Kind, Mark, Token};
 
 const COMMA: Kind = Kind::Mark(Mark::Comma);
 

@@ -1,53 +1,54 @@
 //! From a text to its tree.
-ghost use Rattle.std.specs.Prelude.{◌≡◌};
-ghost use Rattle.utopist_parser.specs.Answers.{Gives};
-ghost use Rattle.utopist_parser.specs.Forms.{ParseOf};
+ghost use Rattle.std.specs.Prelude.{◌≡◌, ◌≤◌, length, IfOk, IsSome};
+ghost use Rattle.utopist_parser.specs.Answers.{Gives, FaultOf};
+ghost use Rattle.utopist_parser.specs.Forms.{ParseOf, AllAsk};
 ghost use Rattle.utopist_parser.specs.Reading.{file_at};
 ghost use Rattle.utopist_parser.specs.Symbols.{symbols};
 
-use crate::compute::compute_at;
-use crate::concept::concept_at;
-use crate::scanner::scan;
-use crate::step::fixed_at;
+use crate::file::file_at;
+use crate::scan::scan;
 use crate::stop::Stop;
-use crate::token::{Kind, Token};
 use crate::tree::File;
-use priz_base::NoMem;
+use priz_base::{NoMem, Place};
 use std::alloc::Global;
+use utopist_lexer::{LexFault, Token};
 
 /// Why a text has no tree.
-#[derive(Clone, Copy, Debug)]
+#[derive(Clone, Copy, Debug, PartialEq, Eq)]
 pub enum ParseFault {
-    /// The text is not of the form.
-    Expected,
+    /// No token stands there.
+    Lex(LexFault),
+    /// This token cannot stand here.
+    Expected(Place),
     NoMem,
 }
 
-/// The tree of a file of one concept and one compute statement, in time linear in the text.
+/// The tree of a file, in time linear in the text.
 pub fn parse(alloc: Global, text: &str) -> Result<File, ParseFault>
-    ensures { ParseOf text.now result }
+    requires { length text.now ≤ 1048576 }
+    ensures tree { ParseOf text.entry.now result }
+    ensures wants { IfOk result AllAsk }
 {
-    if !text.is_ascii() {
-        return Err(ParseFault::Expected);
-    }
-    let tokens = match scan(alloc, text) {
-        Ok(Some(tokens)) => tokens,
-        Ok(None) => return Err(ParseFault::Expected),
+    let (tokens, fault) = match scan(alloc, text) {
+        Ok(found) => found,
         Err(NoMem) => return Err(ParseFault::NoMem),
     };
     match file_at(alloc, &tokens) {
         Ok((file, _)) => Ok(file),
-        Err(Stop::Expected(_)) => Err(ParseFault::Expected),
+        Err(Stop::Expected(left)) => Err(fault_at(&tokens, left, fault)),
         Err(Stop::NoMem) => Err(ParseFault::NoMem),
     }
 }
 
-#[tactic(auto, unfolding(crate::specs::Reading::file_at))]
-fn file_at<'t, 'a>(alloc: Global, tokens: &'t [Token<'a>]) -> Result<(File, &'t [Token<'a>]), Stop>
-    ensures { Gives (λ x. (x.0, symbols x.1.now)) result (file_at 0 (symbols tokens.entry.now)) }
+// The first wrong token, by how many are left at it; where none is, what follows the tokens is wrong.
+fn fault_at(tokens: &[Token], left: usize, fault: Option<LexFault>) -> ParseFault
+    requires within { left ≤ length tokens.now }
+    requires some { left ≡ 0 → IsSome fault }
+    ensures { FaultOf tokens.now left fault result }
 {
-    let (concept, rest) = concept_at(alloc, tokens)?;
-    let (compute, rest) = compute_at(alloc, rest)?;
-    let rest = fixed_at(rest, Kind::End)?;
-    Ok((File { concept, compute }, rest))
+    match (&tokens[tokens.len() - left..], fault) {
+        ([first, ..], _) => ParseFault::Expected(first.place()),
+        ([], Some(fault)) => ParseFault::Lex(fault),
+        ([], None) => unreachable!(),
+    }
 }

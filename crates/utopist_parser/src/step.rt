@@ -6,9 +6,9 @@ ghost use Rattle.utopist_parser.specs.Steps.{next, meets};
 ghost use Rattle.utopist_parser.specs.Symbols.{symbols};
 
 use crate::stop::Stop;
-use crate::token::{Kind, Token};
 use crate::tree::Name;
 use std::alloc::Global;
+use utopist_lexer::{Kind, Token};
 
 pub fn next_is(tokens: &[Token], kind: Kind) -> bool
     ensures { result ≡ meets (is_kind kind) (next (symbols tokens.now)) }
@@ -43,7 +43,7 @@ pub fn name_at<'t, 'a>(
         return Err(Stop::Expected(0));
     };
     match first.kind {
-        Kind::Name => Ok((Name::new(alloc, first.text, first.at)?, rest)),
+        Kind::Name => Ok((Name::new(alloc, first.text, first.place())?, rest)),
         _ => Err(Stop::Expected(tokens.len())),
     }
 }

@@ -1,11 +1,13 @@
-//! What no clause says: that calls succeed, and that the clauses mean the form that was meant.
-use crate::{Item, Name, ParseFault, parse};
+// Trees, and first wrong places that were counted by hand.
+use crate::{File, Item, Name, ParseFault, parse};
+use priz_base::Place;
 use sqlite_items::Items;
-use std::alloc::{AllocError, Global};
+use std::alloc::Global;
 use std::test::Fail;
+use utopist_lexer::{LexFault, LexKind};
 
 const WHOLE: &str =
-    "concept m : ( var a, b : numeric; rel r : a -> b; );\ncompute m : ( given a; find b ); # end";
+    "concept m : ( var a, b : numeric; rel r : a -> b; );\nconcept n:();\ncompute m : ( given a; find b ); compute n:(find c,c); # end";
 
 fn are(names: &Items<Name>, texts: &[&str]) -> bool {
     names.len() == texts.len()
@@ -18,7 +20,7 @@ fn are(names: &Items<Name>, texts: &[&str]) -> bool {
 
 fn is_item(item: &Item, texts: &[&str], output: &str) -> bool {
     match item {
-        Item::Var { names } => are(names, texts),
+        Item::Var { names } => are(names, texts) && output.is_empty(),
         Item::Rel {
             name,
             inputs,
@@ -27,87 +29,117 @@ fn is_item(item: &Item, texts: &[&str], output: &str) -> bool {
     }
 }
 
+/// The answer for a short text.
+fn short(alloc: Global, text: &str) -> Result<File, ParseFault> {
+    if text.len() > 1000 {
+        return Err(ParseFault::NoMem);
+    }
+    parse(alloc, text)
+}
+
 #[test]
 fn reads_a_whole_file(rt: HostRuntime) -> Result<(), Fail> {
-    let file = parse(rt.alloc(), WHOLE)?;
-    assert_eq!(rt; file.concept.name.text(), "m");
-    assert_eq!(rt; file.concept.name.at(), 8);
-    let items = file.concept.items.as_slice();
-    assert_eq!(rt; items.len(), 2);
-    assert!(rt; matches!(items[0], Item::Var { .. }) && is_item(&items[0], &["a", "b"], ""));
-    assert!(rt; matches!(items[1], Item::Rel { .. }) && is_item(&items[1], &["a"], "b"));
-    assert_eq!(rt; file.compute.name.text(), "m");
-    assert_eq!(rt; file.compute.name.at(), 61);
-    assert!(rt; are(&file.compute.givens, &["a"]));
-    assert!(rt; are(&file.compute.wants, &["b"]));
-    Ok(())
-}
-
-// A file whose concept has a name of so many letters.
-fn with_name(alloc: Global, letters: usize) -> Result<String, AllocError> {
-    let mut text = String::from_str(alloc, "concept ")?;
-    for _ in 0..letters {
-        text.push_str("x")?;
-    }
-    text.push_str(" : ( ); compute x : ( find a );")?;
-    Ok(text)
-}
-
-#[test]
-fn accepts_names_up_to_255_letters(rt: HostRuntime) -> Result<(), Fail> {
-    let longest = with_name(rt.alloc(), 255)?;
-    let file = parse(rt.alloc(), longest.as_str())?;
-    assert_eq!(rt; file.concept.name.text().len(), 255);
-    let longer = with_name(rt.alloc(), 256)?;
-    assert!(rt;
-        matches!(
-            parse(rt.alloc(), longer.as_str()),
-            Err(ParseFault::Expected)
-        )
+    let file = short(rt.alloc(), WHOLE)?;
+    let concepts = file.concepts.as_slice();
+    assert_eq!(rt; concepts.len(), 2);
+    assert_eq!(rt; concepts[0].name.text(), "m");
+    assert_eq!(rt;
+        concepts[0].name.place(),
+        Place {
+            at: 8,
+            line: 1,
+            col: 9
+        }
     );
+    assert_eq!(rt;
+        concepts[1].name.place(),
+        Place {
+            at: 61,
+            line: 2,
+            col: 9
+        }
+    );
+    let items = concepts[0].items.as_slice();
+    assert_eq!(rt; items.len(), 2);
+    assert!(rt; is_item(&items[0], &["a", "b"], "") && is_item(&items[1], &["a"], "b"));
+    let computes = file.computes.as_slice();
+    assert_eq!(rt; computes.len(), 2);
+    assert!(rt; are(&computes[0].givens, &["a"]) && are(&computes[0].wants, &["b"]));
+    assert_eq!(rt;
+        computes[1].name.place(),
+        Place {
+            at: 108,
+            line: 3,
+            col: 42
+        }
+    );
+    assert!(rt; are(&computes[1].givens, &[]) && are(&computes[1].wants, &["c", "c"]));
     Ok(())
 }
 
+const EXPECTED: [(&str, u32, u32, u32); 23] = [
+    ("x", 0, 1, 1),
+    ("7", 0, 1, 1),
+    ("concept", 7, 1, 8),
+    ("concept \n", 9, 2, 1),
+    ("concept m ( );", 10, 1, 11),
+    ("concept is : ( );", 8, 1, 9),
+    ("concept c : ( )", 15, 1, 16),
+    ("concept c : ( ); a", 17, 1, 18),
+    ("concept c : ( ) ) $", 16, 1, 17),
+    ("concept c ( 1x", 10, 1, 11),
+    ("concept \u{e9} ( );", 11, 1, 11),
+    ("concept c :\n\t( var a b : numeric; );", 21, 2, 10),
+    ("concept c : ( rel r : a - > b; );", 24, 1, 25),
+    ("compute c : ( find a, );", 22, 1, 23),
+    ("compute c : ( find a ); concept d : ( );", 24, 1, 25),
+    // forms that are not built
+    ("concept c is d : ( );", 10, 1, 11),
+    ("concept c : ( var a : d; );", 22, 1, 23),
+    ("concept c : ( eq a = b; );", 14, 1, 15),
+    ("concept c : ( rel r : [a -> b] -> c; );", 22, 1, 23),
+    ("concept c : ( rel r : a -> b { a }; );", 29, 1, 30),
+    ("concept c : ( rel r : a.b -> c; );", 23, 1, 24),
+    ("compute c : ( given a = 1; find b );", 22, 1, 23),
+    ("compute c : ( given a.b; find b );", 21, 1, 22),
+];
+
 #[test]
-fn accepts_what_is_of_the_form(rt: HostRuntime) {
-    let texts = [
-        "concept c : ( ); compute c : ( find a );",
-        "concept isle : ( rel r : -> a; ); compute c : ( find a, a );",
-        "concept c:(var _a1:numeric;);compute c:(given a,b;find a);",
-        "concept c : ( # a note ) ;\n ); compute c : ( find a );\t\r\n#",
-        "concept c : ( rel r : a, b ->b; ); compute c : ( find a );",
-    ];
-    for text in texts {
-        assert!(rt; parse(rt.alloc(), text).is_ok(), "{text}");
+fn blames_the_first_wrong_token(rt: HostRuntime) {
+    for (text, at, line, col) in EXPECTED {
+        let fault = ParseFault::Expected(Place { at, line, col });
+        assert_eq!(rt; short(rt.alloc(), text).err(), Some(fault), "{text}");
+    }
+    for text in [
+        "",
+        "# only a comment",
+        "concept c:();",
+        "compute c:(find a);",
+    ] {
+        assert_eq!(rt; short(rt.alloc(), text).err(), None, "{text}");
     }
 }
 
+const FAULTS: [(&str, u32, LexKind); 4] = [
+    ("concept c : 1x", 12, LexKind::BadNumber),
+    ("concept c : ( ) $", 16, LexKind::BadNumber),
+    ("concept c : ( var a, b : numeric; >", 34, LexKind::BadChar),
+    (
+        "compute c : ( find 9223372036854775808",
+        19,
+        LexKind::NumberTooWide,
+    ),
+];
+
 #[test]
-fn refuses_all_else(rt: HostRuntime) {
-    let texts = [
-        "",
-        "concept c : ( );",
-        "concept is : ( ); compute c : ( find a );",
-        "concept 1 : ( ); compute c : ( find a );",
-        "concept c : ( ) compute c : ( find a );",
-        "concept c : ( ); compute c : ( find a )",
-        "concept c : ( ); # compute c : ( find a );",
-        "concept c : ( ); compute c : ( find a ); a",
-        "concept c : ( ); compute c : ( find a ); concept c : ( );",
-        "concept c : ( var : numeric; ); compute c : ( find a );",
-        "concept c : ( var a b : numeric; ); compute c : ( find a );",
-        "concept c : ( rel r : a - > b; ); compute c : ( find a );",
-        "concept c : ( ); compute c : ( given ; find a );",
-        "concept c : ( ); compute c : ( find a, );",
-        "concept c.d : ( ); compute c : ( find a );",
-        "concept Concept : ( ); Compute c : ( find a );",
-        "concept \u{e9} : ( ); compute c : ( find a );",
-        "concept c : ( ); compute c : ( find a ); $",
-    ];
-    for text in texts {
-        assert!(rt;
-            matches!(parse(rt.alloc(), text), Err(ParseFault::Expected)),
-            "{text}"
-        );
+fn names_a_fault_behind_what_begins_a_file(rt: HostRuntime) {
+    for (text, at, kind) in FAULTS {
+        let place = Place {
+            at,
+            line: 1,
+            col: at.saturating_add(1),
+        };
+        let fault = ParseFault::Lex(LexFault { place, kind });
+        assert_eq!(rt; short(rt.alloc(), text).err(), Some(fault), "{text}");
     }
 }

@@ -1,15 +1,16 @@
-//! The tree of a file of one concept and one compute statement.
+//! The tree of a file.
 ghost use Rattle.std.specs.Prelude.{◌≡◌, IfOk, string_bytes};
 
+use priz_base::Place;
 use sqlite_items::Items;
 use std::alloc::{AllocError, Global};
 use std::marker::Model;
 
-/// A name, and the offset of its first byte in the text.
+/// A name, and where it begins in the text.
 #[derive(Drop)]
 pub struct Name {
     text: String,
-    at: usize,
+    place: Place,
 }
 
 impl Model for Name {
@@ -20,15 +21,15 @@ impl Model for Name {
 
     ghost coded = { named_code };
 
-    ghost view = { λ n. record { text = string_bytes n.text; at = n.at } };
+    ghost view = { λ n. record { text = string_bytes n.text; place = n.place } };
 }
 
 impl Name {
-    pub(crate) fn new(alloc: Global, text: &str, at: usize) -> Result<Name, AllocError>
-        ensures { IfOk result (λ n. n ≡ record { text = text.now; at = at }) }
+    pub(crate) fn new(alloc: Global, text: &str, place: Place) -> Result<Name, AllocError>
+        ensures { IfOk result (λ n. n ≡ record { text = text.now; place = place }) }
     {
         let text = String::from_str(alloc, text)?;
-        Ok(Name { text, at })
+        Ok(Name { text, place })
     }
 
     pub fn text(&self) -> &str
@@ -37,10 +38,10 @@ impl Name {
         self.text.as_str()
     }
 
-    pub fn at(&self) -> usize
-        ensures { result ≡ self.now.at }
+    pub fn place(&self) -> Place
+        ensures { result ≡ self.now.place }
     {
-        self.at
+        self.place
     }
 }
 
@@ -72,9 +73,9 @@ pub struct Compute {
     pub wants: Items<Name>,
 }
 
-/// One concept and one compute statement.
+/// Concepts, and then compute statements, in the order of the text.
 #[derive(Drop)]
 pub struct File {
-    pub concept: Concept,
-    pub compute: Compute,
+    pub concepts: Items<Concept>,
+    pub computes: Items<Compute>,
 }

@@ -1,14 +1,24 @@
-use Rattle.std.proofs.Common.{List, [], ◌++◌, subst, ap, ◌∙◌}
-use Rattle.utopist_parser.specs.declared.tree.Item.{Item}
-use Rattle.concept_unfold.specs.Declarations.{Known, all_variables}
-use Rattle.concept_unfold.specs.ConceptRules.{AllFollow}
-use Rattle.concept_unfold.proofs.Goals.{goal_decides}
+use Rattle.std.proofs.Common.{[], ap, ◌∙◌}
+use Rattle.std.proofs.lemmas.Result.{err_from_is_err_and}
+use Rattle.concept_unfold.specs.Declarations.{outline_of}
+use Rattle.concept_unfold.specs.ConceptRules.{concepts_rows, computes_rows, concept_rules}
+use Rattle.concept_unfold.proofs.Passing.{all_left, passed_more, fails_next, decides_last}
 use Rattle.concept_unfold.proofs.check.check_concepts.Goals as goal
+
+pub returns-in_err-concepts : goal.returns-in_err-concepts
+returns-in_err-concepts c =
+    let f = c.args.file.now in
+    let p = err_from_is_err_and c.from_residual.result c.from_residual.ensures.1 in
+    rw (p.1, p.2)
+    (fails_next (concept_rules f) (concepts_rows [] f.concepts) (computes_rows f.concepts 0 f.computes) (all_left (concept_rules f))
+    c.in_err-concepts.field-0.0 (rw c.as_slice.ensures at c.in_err-concepts.ensures.rules))
+
+pub check_each_compute-requires : goal.check_each_compute-requires
+check_each_compute-requires c = c.in_ok-concepts.ensures.outline ∙ ap outline_of c.as_slice.ensures
 
 pub returns : goal.returns
 returns c =
-    let items = c.as_slice.result.now in
-    goal_decides c.args.file.now c.check_items.new.scope.variables c.check_goal.result
-    (subst (λ (x : List Item). AllFollow [] [] x) c.as_slice.ensures (subst (λ (k : Known). AllFollow k.names k.variables items) c.new-scope.ensures c.in_ok-check_items.ensures.rule))
-    (c.in_ok-check_items.ensures.variables ∙ ap (λ (k : Known). k.variables ++ all_variables items) c.new-scope.ensures ∙ ap all_variables c.as_slice.ensures)
-    c.check_goal.ensures
+    let f = c.args.file.now in
+    decides_last (concept_rules f) (computes_rows f.concepts 0 f.computes)
+    (passed_more (concept_rules f) (concepts_rows [] f.concepts) (computes_rows f.concepts 0 f.computes) (all_left (concept_rules f)) (rw c.as_slice.ensures at c.in_ok-concepts.ensures.rules))
+    c.check_each_compute.result c.check_each_compute.ensures

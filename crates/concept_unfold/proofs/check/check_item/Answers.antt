@@ -1,21 +1,47 @@
+use Rattle.std.proofs.Common.{[], ◌∷◌, ◌++◌, ◌∙◌, subst}
 use Rattle.std.proofs.lemmas.Result.{err_from_is_err_and}
-use Rattle.concept_unfold.proofs.Relations.{name_refused, inputs_refused, relation_follows}
+use Rattle.concept_unfold.specs.declared.fault.Rule.TheVariants as rule
+use Rattle.concept_unfold.specs.Rows.{is_new, AllHold, FailsFirst, Checks, Row}
+use Rattle.std.proofs.Common.{List}
+use Rattle.concept_unfold.specs.ConceptRules.{at_name, known_rows, item_rows}
+use Rattle.concept_unfold.proofs.Passing.{fails_next, decides_last}
+use Rattle.concept_unfold.proofs.Relations.{same_known, at_relation, at_inputs, at_output}
 use Rattle.concept_unfold.proofs.check.check_item.Goals as goal
 
-pub returns-in_err-declare_operator-in-Rel-clause-rule : goal.returns-in_err-declare_operator-in-Rel-clause-rule
-returns-in_err-declare_operator-in-Rel-clause-rule c =
+pub returns-in_err-declare_operator-in-Rel-clause-rules : goal.returns-in_err-declare_operator-in-Rel-clause-rules
+returns-in_err-declare_operator-in-Rel-clause-rules c =
+    let names = c.args.scope.now.names in
+    let vars = c.args.scope.now.variables in
+    let n = c.in-Rel.name in
     let p = err_from_is_err_and c.from_residual.result c.from_residual.ensures.1 in
     rw (p.1, p.2)
-    (name_refused c.args.scope.now.names c.args.scope.now.variables c.args.item.now c.in-Rel.name c.in-Rel.output c.in-Rel.inputs c.in-Rel.is
-    c.text.result.now c.in_err-declare_operator-in-Rel.field-0.0 c.text.ensures c.in_err-declare_operator-in-Rel.ensures.rule)
+    (fails_next (item_rows names vars c.args.item.now) (at_name n rule.DuplicateName (is_new names n.text) ∷ []) (known_rows vars c.in-Rel.inputs ++ known_rows vars (c.in-Rel.output ∷ []))
+    (at_relation names vars c.args.item.now n c.in-Rel.inputs c.in-Rel.output c.in-Rel.is)
+    c.in_err-declare_operator-in-Rel.field-0.0 c.in_err-declare_operator-in-Rel.ensures.rule)
 
-pub returns-then-not-knows-clause-rule : goal.returns-then-not-knows-clause-rule
-returns-then-not-knows-clause-rule c =
-    inputs_refused c.args.scope.now.names c.args.scope.now.variables c.args.item.now c.in-Rel.name c.in-Rel.output c.in-Rel.inputs c.in-Rel.is
-    c.declare_operator.new.self.variables c.as_slice-in-Rel.result.now c.knows.result c.in_ok-declare_operator-in-Rel.ensures.variables c.as_slice-in-Rel.ensures c.knows.ensures c.if-not-knows.true
+pub returns-in_err-expect_all_known-in-Rel-clause-rules : goal.returns-in_err-expect_all_known-in-Rel-clause-rules
+returns-in_err-expect_all_known-in-Rel-clause-rules c =
+    let names = c.args.scope.now.names in
+    let vars = c.args.scope.now.variables in
+    let inputs = c.in-Rel.inputs in
+    let e = c.in_err-expect_all_known-in-Rel.field-0.0 in
+    let same = same_known vars c.variables.result.now inputs c.as_slice-in-Rel.result.now (c.variables.ensures ∙ c.in_ok-declare_operator-in-Rel.ensures.variables) c.as_slice-in-Rel.ensures in
+    let p = err_from_is_err_and c.from_residual-in_err-expect_all_known-in-Rel.result c.from_residual-in_err-expect_all_known-in-Rel.ensures.1 in
+    rw (p.1, p.2)
+    (fails_next (item_rows names vars c.args.item.now) (known_rows vars inputs) (known_rows vars (c.in-Rel.output ∷ []))
+    (at_inputs names vars c.args.item.now c.in-Rel.name inputs c.in-Rel.output c.in-Rel.is c.in_ok-declare_operator-in-Rel.ensures.rule)
+    e (subst (λ (rows : List Row). FailsFirst rows e) same c.in_err-expect_all_known-in-Rel.ensures))
 
-pub returns-else-not-knows-2-clause-rule : goal.returns-else-not-knows-2-clause-rule
-returns-else-not-knows-2-clause-rule c =
-    relation_follows c.args.scope.now.names c.args.scope.now.variables c.args.item.now c.in-Rel.name c.in-Rel.output c.in-Rel.inputs c.in-Rel.is
-    c.text.result.now c.declare_operator.new.self.variables c.as_slice-in-Rel.result.now c.from_ref.result.now c.text.ensures c.in_ok-declare_operator-in-Rel.ensures.variables c.as_slice-in-Rel.ensures c.from_ref.ensures.value
-    c.in_ok-declare_operator-in-Rel.ensures.rule (c.knows.ensures.0 c.if-not-knows.false) (c.knows-in-Rel.ensures.0 c.if-not-knows-2.false)
+pub returns-in_ok-expect_all_known-in-Rel-clause-rules : goal.returns-in_ok-expect_all_known-in-Rel-clause-rules
+returns-in_ok-expect_all_known-in-Rel-clause-rules c =
+    let names = c.args.scope.now.names in
+    let vars = c.args.scope.now.variables in
+    let inputs = c.in-Rel.inputs in
+    let r = c.expect_all_known-in-Rel.result in
+    let outputs = c.in-Rel.output ∷ [] in
+    let known = c.in_ok-declare_operator-in-Rel.ensures.variables in
+    let same = same_known vars c.variables.result.now inputs c.as_slice-in-Rel.result.now (c.variables.ensures ∙ known) c.as_slice-in-Rel.ensures in
+    let same_output = same_known vars c.variables-in-Rel.result.now outputs c.from_ref.result.now (c.variables-in-Rel.ensures ∙ known) c.from_ref.ensures.value in
+    decides_last (item_rows names vars c.args.item.now) (known_rows vars outputs)
+    (at_output names vars c.args.item.now c.in-Rel.name inputs c.in-Rel.output c.in-Rel.is c.in_ok-declare_operator-in-Rel.ensures.rule (subst AllHold same c.in_ok-expect_all_known-in-Rel.ensures))
+    r (subst (λ (rows : List Row). Checks rows r) same_output c.expect_all_known-in-Rel.ensures)

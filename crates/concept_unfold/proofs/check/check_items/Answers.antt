@@ -1,13 +1,56 @@
+use Rattle.std.proofs.Common.{◌+◌, List, [], ◌++◌, drop, refl, sym, ap, ◌∙◌}
 use Rattle.std.proofs.lemmas.Result.{err_from_is_err_and}
-use Rattle.concept_unfold.specs.ConceptRules.{FollowsAfter, AllFollow}
-use Rattle.concept_unfold.proofs.Names.{refused, head_follows}
+use Rattle.std.proofs.lemmas.List.{drop_all, append-nil}
+use Rattle.utopist_parser.specs.declared.tree.Item.{Item}
+use Rattle.concept_unfold.specs.Declarations.{declared, variables, all_variables}
+use Rattle.concept_unfold.specs.Rows.{Row}
+use Rattle.concept_unfold.specs.ConceptRules.{item_rows, items_rows}
+use Rattle.concept_unfold.proofs.Names.{gathered_more}
+use Rattle.concept_unfold.proofs.Passing.{all_left, at_next, at_end, passed_more, fails_next}
 use Rattle.concept_unfold.proofs.check.check_items.Goals as goal
 
-pub returns-in_err-check_item-clause-rule : goal.returns-in_err-check_item-clause-rule
-returns-in_err-check_item-clause-rule c =
+pub loop-item-init : goal.loop-item-init
+loop-item-init c = rw c.new-scope.ensures (record { passed = all_left (items_rows [] [] c.args.items.now); variables = refl })
+
+pub loop-item-preserved : goal.loop-item-preserved
+loop-item-preserved c =
+    let items = c.args.items.now in
+    let i = c.loop-item.item-index in
+    let x = c.item-item.result in
+    let old = c.loop-item.scope in
+    let rows : List Item → List Row = items_rows old.names old.variables in
+    let whole = items_rows [] [] items in
+    let lt = c.loop-item-test.true in
+    let is = c.item-item.is in
+    record {
+      passed =
+          rw (c.in_ok-check_item.ensures.names, c.in_ok-check_item.ensures.variables)
+          (passed_more whole (item_rows old.names old.variables x) (items_rows (old.names ++ declared x) (old.variables ++ variables x) (drop (i + 1) items))
+          (at_next rows whole items i x lt is c.loop-item.invariant.passed) c.in_ok-check_item.ensures.rules);
+      variables = gathered_more all_variables items i x old.variables c.check_item.new.scope.variables (variables x) (all_variables items) lt is refl c.loop-item.invariant.variables c.in_ok-check_item.ensures.variables;
+    }
+
+pub returns-in_err-check_item-clause-rules : goal.returns-in_err-check_item-clause-rules
+returns-in_err-check_item-clause-rules c =
+    let items = c.args.items.now in
+    let i = c.loop-item.item-index in
+    let x = c.item-item.result in
+    let old = c.loop-item.scope in
+    let rows : List Item → List Row = items_rows old.names old.variables in
+    let whole = items_rows [] [] items in
     let p = err_from_is_err_and c.from_residual.result c.from_residual.ensures.1 in
-    let s = c.loop-item.scope in
     rw (p.1, p.2)
-    (refused c.in_err-check_item.field-0.0 (FollowsAfter s.names s.variables c.item-item.result) (AllFollow c.args.scope.now.names c.args.scope.now.variables c.args.items.now)
-    (λ whole. head_follows s.names s.variables c.args.items.now c.loop-item.item-index c.item-item.result c.loop-item-test.true c.item-item.is (c.loop-item.invariant.rule.1 whole))
-    c.in_err-check_item.ensures.rule)
+    (fails_next whole (item_rows old.names old.variables x) (items_rows (old.names ++ declared x) (old.variables ++ variables x) (drop (i + 1) items))
+    (at_next rows whole items i x c.loop-item-test.true c.item-item.is c.loop-item.invariant.passed) c.in_err-check_item.field-0.0 c.in_err-check_item.ensures.rules)
+
+pub returns-clause-rules : goal.returns-clause-rules
+returns-clause-rules c =
+    let items = c.args.items.now in
+    let s = c.loop-item.scope in
+    at_end (items_rows s.names s.variables) (items_rows [] [] items) items c.loop-item.item-index c.loop-item-test.false refl c.loop-item.invariant.passed
+
+pub returns-clause-variables : goal.returns-clause-variables
+returns-clause-variables c =
+    let items = c.args.items.now in
+    let vars = c.loop-item.scope.variables in
+    c.into_variables.ensures ∙ sym (append-nil vars) ∙ ap (λ (xs : List Item). vars ++ all_variables xs) (sym (drop_all c.loop-item.item-index items c.loop-item-test.false)) ∙ c.loop-item.invariant.variables

@@ -1,7 +1,7 @@
 use Rattle.std.proofs.Common.{ℕ, List, subst, sym, ap}
 use Rattle.statement_set.specs.Problem.{Task}
 use Rattle.utopist_parser.specs.Named.{Named}
-use Rattle.concept_unfold.specs.ConceptRules.{AreKnown}
+use Rattle.concept_unfold.specs.Unfolded.{AreKnown}
 use Rattle.concept_unfold.proofs.goal.add_goal.Goals as goal
 
 pub add_wants-requires-clause-known : goal.add_wants-requires-clause-known

@@ -1,9 +1,16 @@
 use Rattle.std.proofs.Common.{List, subst, sym}
 use Rattle.utopist_parser.specs.Named.{Named}
-use Rattle.utopist_parser.specs.declared.tree.Item.{Item}
-use Rattle.concept_unfold.specs.ConceptRules.{AreKnown, UsesKnown}
+use Rattle.concept_unfold.specs.Unfolded.{AreKnown}
+use Rattle.concept_unfold.proofs.Progress.{inputs_known, output_known}
 use Rattle.concept_unfold.proofs.items.add_item.Goals as goal
 
 pub add_statement-requires-clause-inputs : goal.add_statement-requires-clause-inputs
 add_statement-requires-clause-inputs c =
-    subst (λ (ns : List Named). AreKnown c.args.problem.now.names ns) (sym c.as_slice-in-Rel.ensures) (subst (λ (i : Item). UsesKnown c.args.problem.now.names i) c.in-Rel.is c.requires.known).0
+    let names = c.args.problem.now.names in
+    subst (λ (ns : List Named). AreKnown names ns) (sym c.as_slice-in-Rel.ensures)
+    (inputs_known names names c.args.item.now c.in-Rel.name c.in-Rel.inputs c.in-Rel.output c.in-Rel.is c.requires.rules)
+
+pub add_statement-requires-clause-output : goal.add_statement-requires-clause-output
+add_statement-requires-clause-output c =
+    let names = c.args.problem.now.names in
+    output_known names names c.args.item.now c.in-Rel.name c.in-Rel.inputs c.in-Rel.output c.in-Rel.is c.requires.rules

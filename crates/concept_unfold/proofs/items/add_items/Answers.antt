@@ -3,16 +3,14 @@ use Rattle.statement_set.specs.Problem.{Task}
 use Rattle.concept_unfold.specs.Declarations.{all_variables}
 use Rattle.concept_unfold.specs.Unfolded.{statements_of}
 use Rattle.std.specs.List.{flat_map}
-use Rattle.concept_unfold.proofs.Names.{head_follows}
-use Rattle.concept_unfold.proofs.Progress.{fresh_variables, follows_more, variables_more, statements_more, room_more}
+use Rattle.concept_unfold.proofs.Progress.{item_behind_fewer, here_follows, follows_more, variables_more, statements_more, room_more}
 use Rattle.concept_unfold.proofs.items.add_items.Goals as goal
 
-pub add_item-requires-clause-fresh : goal.add_item-requires-clause-fresh
-add_item-requires-clause-fresh c =
+pub add_item-requires-clause-rules : goal.add_item-requires-clause-rules
+add_item-requires-clause-rules c =
     let f = c.loop-item.invariant.follows in
     let vars = c.loop-item.problem.names in
-    fresh_variables f.0 vars c.item-item.result f.1
-    (head_follows f.0 vars c.args.items.now c.loop-item.item-index c.item-item.result c.loop-item-test.true c.item-item.is f.2).0
+    item_behind_fewer f.0 vars vars c.item-item.result f.1 (here_follows c.args.items.now c.loop-item.item-index c.item-item.result c.loop-item-test.true c.item-item.is f.0 vars f.2)
 
 pub loop-item-preserved : goal.loop-item-preserved
 loop-item-preserved c =
@@ -25,12 +23,12 @@ loop-item-preserved c =
     let names = ap (λ (p : Task). p.names) e in
     let statements = ap (λ (p : Task). p.statements) e in
     let f = c.loop-item.invariant.follows in
-    let known = (head_follows f.0 old.names items i x c.loop-item-test.true c.item-item.is f.2).1 in
+    let known = here_follows items i x c.loop-item-test.true c.item-item.is f.0 old.names f.2 in
     let all = all_variables items in
     record {
       follows = follows_more items i x c.loop-item-test.true c.item-item.is f.0 old.names new.names f.1 f.2 names;
       variables = variables_more items i x c.loop-item-test.true c.item-item.is old.names new.names all c.loop-item.invariant.variables names;
-      statements = statements_more items i x c.loop-item-test.true c.item-item.is old.names all old.statements new.statements (flat_map (statements_of all) items) c.loop-item.invariant.variables known c.loop-item.invariant.statements statements;
+      statements = statements_more items i x c.loop-item-test.true c.item-item.is f.0 old.names all old.statements new.statements (flat_map (statements_of all) items) c.loop-item.invariant.variables known c.loop-item.invariant.statements statements;
       room = room_more items i x c.loop-item-test.true c.item-item.is old.names old.statements new.statements c.loop-item.invariant.room statements;
       givens = ap (λ (p : Task). p.givens) e ∙ c.loop-item.invariant.givens;
       wants = ap (λ (p : Task). p.wants) e ∙ c.loop-item.invariant.wants;

@@ -1,6 +1,47 @@
+use Rattle.std.proofs.Common.{◌+◌, ℕ, List, [], ◌∷◌, ◌++◌, drop, refl, ap, ◌∙◌}
+use Rattle.statement_set.specs.Problem.{Task}
+use Rattle.concept_unfold.specs.declared.fault.Rule.TheVariants as rule
+use Rattle.concept_unfold.specs.Declarations.{texts}
+use Rattle.concept_unfold.specs.Rows.{is_new}
+use Rattle.concept_unfold.specs.ConceptRules.{at_name, once_rows}
+use Rattle.concept_unfold.proofs.Names.{gathered_more}
+use Rattle.concept_unfold.proofs.Passing.{first_holds, rest_holds}
+use Rattle.concept_unfold.proofs.Progress.{once_here, name_step}
 use Rattle.concept_unfold.proofs.Room.{room_for_one}
 use Rattle.concept_unfold.proofs.items.add_variables.Goals as goal
 
 pub add_var-requires-clause-room : goal.add_var-requires-clause-room
 add_var-requires-clause-room c =
     room_for_one c.loop-name.problem.names c.args.problem.now.names c.args.names.now c.loop-name.name-index c.loop-name-test.true c.loop-name.invariant.names c.requires.room
+
+pub add_var-requires-clause-fresh : goal.add_var-requires-clause-fresh
+add_var-requires-clause-fresh c =
+    let ns = c.args.names.now in
+    let i = c.loop-name.name-index in
+    let n = c.name-item.result in
+    let names = c.loop-name.problem.names in
+    rw c.text.ensures
+    (first_holds (at_name n rule.DuplicateName (is_new names n.text)) (once_rows rule.DuplicateName (names ++ n.text ∷ []) (drop (i + 1) ns))
+    (once_here rule.DuplicateName names ns i n c.loop-name-test.true c.name-item.is c.loop-name.invariant.fresh))
+
+pub loop-name-preserved : goal.loop-name-preserved
+loop-name-preserved c =
+    let ns = c.args.names.now in
+    let i = c.loop-name.name-index in
+    let n = c.name-item.result in
+    let start = c.args.problem.now in
+    let old = c.loop-name.problem in
+    let new = c.add_var.new.self in
+    let lt = c.loop-name-test.true in
+    let is = c.name-item.is in
+    let so_far = c.loop-name.invariant in
+    let added = c.in_ok-add_var.ensures.ok ∙ ap (λ (t : List ℕ). record old { names = old.names ++ t ∷ [] }) c.text.ensures in
+    let names = ap (λ (p : Task). p.names) added in
+    record {
+      same = name_step start old new (old.names ++ n.text ∷ []) so_far.same added;
+      names = gathered_more texts ns i n old.names new.names (n.text ∷ []) (start.names ++ texts ns) lt is refl so_far.names names;
+      fresh =
+          rw names
+          (rest_holds (at_name n rule.DuplicateName (is_new old.names n.text)) (once_rows rule.DuplicateName (old.names ++ n.text ∷ []) (drop (i + 1) ns))
+          (once_here rule.DuplicateName old.names ns i n lt is so_far.fresh));
+    }

@@ -1,0 +1,30 @@
+-- What an outcome says where the input is accepted.
+use Rattle.std.proofs.Common.{◌≡◌, ◌≢◌, ◌≤◌, ℕ, ◌+◌, List, length, Some, None, refl, ap, subst, arith, length-append}
+use Rattle.std.specs.Prelude.{IfSome}
+use Rattle.std.specs.declared.option.Option.{Option}
+use Rattle.priz_base.specs.Reading.{max_input, TakesTooMany}
+use Rattle.utopist_parser.specs.declared.tree.File.{File}
+use Rattle.priz_cli.specs.declared.outcome.Outcome.{Outcome}
+use Rattle.priz_cli.specs.declared.outcome.Outcome.TheVariants as outcome
+use Rattle.priz_cli.specs.Accepted.{Accepts}
+use Rattle.priz_cli.specs.Outcomes.{Leaves, IsAnswered}
+
+-- of an input of few bytes none is taken beyond the limit
+few_taken : (bytes : List ℕ) (left' : Option (List ℕ)) → TakesTooMany (Some bytes) left' → length bytes ≤ max_input → ⊥
+few_taken bytes None (taken, many, rest) few = absurd rest
+few_taken bytes (Some more) (taken, many, rest) few =
+    let whole : length bytes ≡ length taken + length more = subst (λ n. length bytes ≡ n) (length-append taken more) (ap length rest) in
+    omega arith
+
+-- accepted bytes are answered, or memory is wanted, or the outside failed
+pub answered : (o : Outcome) (left left' written written' : Option (List ℕ)) (read write : Type 0)
+    → Leaves o left left' written written' → o ≢ outcome.Usage → (o ≡ outcome.ReadFault → read) → (o ≡ outcome.WriteFault → write) → ¬ read → ¬ write
+    → IfSome left (λ bytes. (f : File) → Accepts bytes f → IsAnswered o)
+answered o None left' written written' read write h mode on_read on_write no_read no_write = tt
+answered (outcome.Solved answers) (Some bytes) left' written written' read write h mode on_read on_write no_read no_write = λ f a. tt
+answered outcome.Usage (Some bytes) left' written written' read write h mode on_read on_write no_read no_write = λ f a. mode refl
+answered (outcome.Refused r) (Some bytes) left' written written' read write h mode on_read on_write no_read no_write = λ f a. h.0.none f a
+answered outcome.InputTooLong (Some bytes) left' written written' read write h mode on_read on_write no_read no_write = λ f a. few_taken bytes left' h.0 a.few
+answered outcome.ReadFault (Some bytes) left' written written' read write h mode on_read on_write no_read no_write = λ f a. no_read (on_read refl)
+answered outcome.WriteFault (Some bytes) left' written written' read write h mode on_read on_write no_read no_write = λ f a. no_write (on_write refl)
+answered outcome.NoMem (Some bytes) left' written written' read write h mode on_read on_write no_read no_write = λ f a. tt

@@ -1,0 +1,52 @@
+ghost use Rattle.std.specs.Prelude.{◌≡◌, All, IfOk, OnOk, ◌++◌, ◌∷◌, []};
+ghost use Rattle.std.specs.List.{flat_map};
+ghost use Rattle.statement_set.specs.Problem.{IsWhole};
+ghost use Rattle.utopist_parser.specs.Forms.{AllAsk};
+ghost use Rattle.concept_unfold.specs.Rows.{AllHold, Checks};
+ghost use Rattle.concept_unfold.specs.ConceptRules.{concept_rules};
+ghost use Rattle.concept_unfold.specs.UnfoldingRules.{unfolding_rules, rules_of};
+ghost use Rattle.answer_core.specs.Answers.{IsPlain};
+ghost use Rattle.priz_cli.specs.Reports.{problems_of};
+
+use concept_unfold::{UnfoldFault, check_concepts, unfold};
+use priz_base::NoMem;
+use sqlite_items::Items;
+use statement_set::Problem;
+use std::alloc::Global;
+use utopist_parser::File;
+
+/// The problems of a file's compute statements.
+pub(crate) fn problems_of(alloc: Global, file: &File) -> Result<Items<Problem>, UnfoldFault>
+    requires wants { AllAsk file.now }
+    ensures rules { Checks (rules_of file.now) result }
+    ensures problems { IfOk result (λ ps. ps ≡ problems_of file.now) }
+    ensures whole { IfOk result (All IsWhole) }
+    ensures plain { IfOk result (All IsPlain) }
+{
+    check_concepts(alloc, file)?;
+    unfold_all(alloc, file)
+}
+
+fn unfold_all(alloc: Global, file: &File) -> Result<Items<Problem>, UnfoldFault>
+    requires rules { AllHold (concept_rules file.now) }
+    requires wants { AllAsk file.now }
+    ensures rules { Checks (flat_map (unfolding_rules file.now) file.now.computes) result }
+    ensures problems { IfOk result (λ ps. ps ≡ problems_of file.now) }
+    ensures whole { IfOk result (All IsWhole) }
+    ensures plain { IfOk result (All IsPlain) }
+{
+    let mut problems = Items::new(alloc);
+    // The rules of concepts leave at most 64 compute statements.
+    let count = file.computes.len() as u32;
+    for which in 0..count {
+        add(unfold(alloc, file, which)?, &mut problems)?;
+    }
+    Ok(problems)
+}
+
+fn add(problem: Problem, problems: &mut Items<Problem>) -> Result<(), NoMem>
+    ensures { OnOk result (problems.new ≡ problems.old ++ problem ∷ []) }
+{
+    problems.push(problem)?;
+    Ok(())
+}

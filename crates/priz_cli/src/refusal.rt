@@ -1,0 +1,16 @@
+use concept_unfold::ModelFault;
+use priz_base::Place;
+use utopist_lexer::LexFault;
+
+/// Why an input is refused.
+#[derive(Clone, Copy, Debug, PartialEq, Eq)]
+pub enum Refusal {
+    /// The bytes up to this one are UTF-8, and go on with none of its characters.
+    NotUtf8(u32),
+    /// No token stands there.
+    Lex(LexFault),
+    /// This token cannot stand here.
+    Expected(Place),
+    /// A rule of concepts or of unfolding fails.
+    Model(ModelFault),
+}

@@ -1,0 +1,110 @@
+-- The longest token at the front of some characters.
+use Rattle.std.proofs.Common.{◌≡◌, ℕ, ◌<◌, Bool, true, false, List, [], ◌∷◌, ◌++◌, length, Some, None, refl, sym, ap, subst, ◌∙◌, arith, append_assoc, length-append}
+use Rattle.std.specs.Char.{is_ascii_digit}
+use Rattle.std.specs.List.{list_all}
+use Rattle.std.specs.Str.{chars, encode_utf8_all}
+use Rattle.std.proofs.lemmas.Bool.{and_parts, and_from, both_ways}
+use Rattle.std.proofs.lemmas.List.{nil_from_length}
+use Rattle.std.proofs.lemmas.List.Folds.{list_all-append}
+use Rattle.std.proofs.lemmas.Str.{encodes-append, encodes-IsAscii}
+use Rattle.utopist_lexer.specs.declared.mark.Mark.{Mark}
+use Rattle.utopist_lexer.specs.declared.classes.Class.TheVariants as classes
+use Rattle.utopist_lexer.specs.declared.token.Kind.{Kind}
+use Rattle.utopist_lexer.specs.Characters.{is_start, is_continue, has}
+use Rattle.utopist_lexer.specs.Spelling.{mark_text}
+use Rattle.utopist_lexer.specs.Lexical.{IsIdentifier, AreDigits, Spells}
+use Rattle.utopist_lexer.specs.Faults.{IsLoneDollar}
+use Rattle.utopist_lexer.specs.Tables.{mark_at}
+use Rattle.utopist_lexer.specs.Cutting.{StopsAt, IsRun}
+use Rattle.utopist_lexer.proofs.CharacterFacts.{start_continues}
+use Rattle.utopist_lexer.proofs.Spellings.{mark_greatest, mark_found}
+use Rattle.utopist_lexer.proofs.Leads.{other, lead, letter_lead, digit_lead, dollar_lead, spells_lead, spells_something, letter_identifier, digit_digits, dollar_digits, other_mark, mark_ascii}
+
+-- ---- runs
+
+-- where the first character passes, a run is not empty
+pub run_starts : (p : ℕ → Bool) (c : ℕ) (cs front rest : List ℕ) → p c ≡ true → c ∷ cs ≡ front ++ rest → IsRun p front rest → (ds : List ℕ) × (front ≡ c ∷ ds)
+run_starts p c cs [] rest h e r = absurd (both_ways (p c) (subst (StopsAt p) (sym e) r.stops) h)
+run_starts p c cs (d ∷ ds) rest h e r = (ds, let same : d ≡ c = cc in ap (λ (x : ℕ). x ∷ ds) same)
+
+-- what goes on behind a run would pass
+run_done : (p : ℕ → Bool) (front rest more after : List ℕ) → IsRun p front rest → rest ≡ more ++ after → list_all p (front ++ more) ≡ true → more ≡ []
+run_done p front rest [] after r e all = refl
+run_done p front rest (d ∷ ds) after r e all =
+    let stops : p d ≡ false = subst (StopsAt p) e r.stops in
+    let passes = (and_parts _ _ (sym (list_all-append p front (d ∷ ds)) ∙ all)).1 in
+    absurd (both_ways (p d) stops (and_parts (p d) (list_all p ds) passes).0)
+
+-- ---- identifiers
+
+identifier_continues : (c : ℕ) (cs : List ℕ) → IsIdentifier (c ∷ cs) → list_all is_continue (c ∷ cs) ≡ true
+identifier_continues c cs i = and_from _ _ (start_continues c i.0) i.1
+
+module _ (c : ℕ) (cs front rest : List ℕ) (starts : is_start c ≡ true) (split : c ∷ cs ≡ front ++ rest) (run : IsRun (has classes.Identifier) front rest) where
+  abbrev first : (ds : List ℕ) × (front ≡ c ∷ ds)
+  first = run_starts (has classes.Identifier) c cs front rest (start_continues c starts) split run
+
+  pub identifier_front : IsIdentifier front
+  identifier_front =
+      let f = first in subst IsIdentifier (sym f.1) (starts, (and_parts (is_continue c) (list_all is_continue f.0) (subst (λ (l : List ℕ). list_all is_continue l ≡ true) f.1 run.passes)).1)
+
+  pub identifier_longest : (more after : List ℕ) (k : Kind) → rest ≡ more ++ after → Spells k (front ++ more) → more ≡ []
+  identifier_longest more after k e s =
+      let f = first in
+      let there : Spells k (c ∷ (f.0 ++ more)) = subst (λ (l : List ℕ). Spells k (l ++ more)) f.1 s in
+      let i = letter_identifier k (c ∷ (f.0 ++ more)) (sym (spells_lead k c (f.0 ++ more) there) ∙ letter_lead c starts) there in
+      run_done is_continue front rest more after run e (subst (λ (l : List ℕ). list_all is_continue (l ++ more) ≡ true) (sym f.1) (identifier_continues c (f.0 ++ more) i))
+
+-- ---- numbers
+
+module _ (c : ℕ) (cs front rest : List ℕ) (starts : is_ascii_digit c ≡ true) (split : c ∷ cs ≡ front ++ rest) (run : IsRun (has classes.Digits) front rest) where
+  abbrev first_digit : (ds : List ℕ) × (front ≡ c ∷ ds)
+  first_digit = run_starts (has classes.Digits) c cs front rest starts split run
+
+  pub number_front : AreDigits front
+  number_front = let f = first_digit in (subst (λ (l : List ℕ). 0 < length l) (sym f.1) (omega arith), run.passes)
+
+  pub number_longest : (more after : List ℕ) (k : Kind) → rest ≡ more ++ after → Spells k (front ++ more) → more ≡ []
+  number_longest more after k e s =
+      let f = first_digit in
+      let there : Spells k (c ∷ (f.0 ++ more)) = subst (λ (l : List ℕ). Spells k (l ++ more)) f.1 s in
+      let d = digit_digits k (c ∷ (f.0 ++ more)) (sym (spells_lead k c (f.0 ++ more) there) ∙ digit_lead c starts) there in
+      run_done is_ascii_digit front rest more after run e (subst (λ (l : List ℕ). list_all is_ascii_digit (l ++ more) ≡ true) (sym f.1) d.1)
+
+-- ---- $ and a number
+
+pub sub_longest : (digits rest : List ℕ) → IsRun (has classes.Digits) digits rest → (more after : List ℕ) (k : Kind) → rest ≡ more ++ after → Spells k ((36 ∷ digits) ++ more) → more ≡ []
+sub_longest digits rest run more after k e s =
+    let d = dollar_digits k (36 ∷ (digits ++ more)) (sym (spells_lead k 36 (digits ++ more) s) ∙ dollar_lead) s in
+    let same : digits ++ more ≡ d.0 = cc (d.1) in
+    run_done is_ascii_digit digits rest more after run e (subst (λ (l : List ℕ). list_all is_ascii_digit l ≡ true) (sym same) d.2.1)
+
+-- behind $ stands no digit
+pub lone_dollar : (text rest : List ℕ) → text ≡ 36 ∷ rest → StopsAt is_ascii_digit rest → IsLoneDollar text
+lone_dollar text [] e s = subst IsLoneDollar (sym e) refl
+lone_dollar text (d ∷ ds) e s = subst IsLoneDollar (sym e) (refl, s)
+
+-- ---- marks
+
+pub encoded_mark : (m : Mark) (text rest : List ℕ) → chars text ≡ mark_text m ++ rest → encode_utf8_all (chars text) ≡ text → text ≡ mark_text m ++ encode_utf8_all rest
+encoded_mark m text rest e u = sym u ∙ ap encode_utf8_all e ∙ encodes-append (mark_text m) rest ∙ ap (λ (l : List ℕ). l ++ encode_utf8_all rest) (encodes-IsAscii (mark_text m) (mark_ascii m))
+
+module _ (text : List ℕ) (c : ℕ) (cs : List ℕ) (is : chars text ≡ c ∷ cs) (utf8 : encode_utf8_all (chars text) ≡ text) (otherwise : lead c ≡ other) where
+  -- what spells a token there is a mark
+  a_mark : (k : Kind) (front rest : List ℕ) → chars text ≡ front ++ rest → Spells k front → (n : Mark) × (front ≡ mark_text n)
+  a_mark k [] rest e s = absurd (spells_something k s)
+  a_mark k (d ∷ ds) rest e s =
+      let same : d ≡ c = cc in
+      other_mark k (d ∷ ds) (sym (spells_lead k d ds s) ∙ ap lead same ∙ otherwise) s
+
+  pub mark_longest : (m : Mark) (rest : List ℕ) → chars text ≡ mark_text m ++ rest → mark_at text ≡ Some m → (more after : List ℕ) (k : Kind) → rest ≡ more ++ after → Spells k (mark_text m ++ more) → more ≡ []
+  mark_longest m rest e found more after k split s =
+      let whole : chars text ≡ (mark_text m ++ more) ++ after = e ∙ ap (λ (l : List ℕ). mark_text m ++ l) split ∙ sym (append_assoc (mark_text m) more after) in
+      let n = a_mark k (mark_text m ++ more) after whole s in
+      let bytes = encoded_mark n.0 text after (whole ∙ ap (λ (l : List ℕ). l ++ after) n.1) utf8 in
+      nil_from_length more (omega (arith, mark_greatest n.0 m text (encode_utf8_all after) bytes found, ap length n.1, length-append (mark_text m) more))
+
+  pub no_mark : mark_at text ≡ None → (k : Kind) (front rest : List ℕ) → chars text ≡ front ++ rest → Spells k front → ⊥
+  no_mark none k front rest e s =
+      let n = a_mark k front rest e s in
+      mark_found n.0 (encode_utf8_all rest) (sym (ap mark_at (encoded_mark n.0 text rest (e ∙ ap (λ (l : List ℕ). l ++ rest) n.1) utf8)) ∙ none)

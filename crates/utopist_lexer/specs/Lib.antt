@@ -1,0 +1,12 @@
+pub mod Spelling
+pub mod Kinds
+pub mod Characters
+pub mod Gap
+pub mod Places
+pub mod Lexical
+pub mod Faults
+pub mod Tokens
+pub mod Scanning
+pub mod OneReading
+pub mod Tables
+pub mod Cutting

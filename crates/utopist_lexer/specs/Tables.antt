@@ -1,0 +1,17 @@
+-- Keywords and marks, as they are found in a table.
+use Rattle.std.specs.Prelude.{ℕ, List, Option, nat_eq}
+use Rattle.std.specs.List.{find, starts_with}
+use Rattle.std.specs.Str.{bytes_eq}
+use Rattle.utopist_lexer.specs.declared.word.Word.{Word}
+use Rattle.utopist_lexer.specs.declared.word.TheConstants.{WORDS}
+use Rattle.utopist_lexer.specs.declared.mark.Mark.{Mark}
+use Rattle.utopist_lexer.specs.declared.mark.TheConstants.{MARKS}
+use Rattle.utopist_lexer.specs.Spelling.{word_text, mark_text}
+
+-- the keyword of these characters
+abbrev pub word_of : List ℕ → Option Word
+word_of text = find (λ w. bytes_eq (word_text w) text) WORDS
+
+-- the mark at the front, the longer one where one begins with the other
+abbrev pub mark_at : List ℕ → Option Mark
+mark_at text = find (λ m. starts_with nat_eq text (mark_text m)) MARKS

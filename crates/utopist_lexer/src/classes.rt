@@ -1,0 +1,41 @@
+//! Classes of characters.
+ghost use Rattle.std.specs.Prelude.{◌≡◌};
+ghost use Rattle.utopist_lexer.specs.Characters.{is_blank, is_start, is_continue, has};
+
+use unicode_ident::{is_xid_continue, is_xid_start};
+
+pub fn is_blank(c: char) -> bool
+    ensures { result ≡ is_blank c }
+{
+    c == ' ' || c == '\t' || c == '\n' || c == '\r'
+}
+
+pub fn is_start(c: char) -> bool
+    ensures { result ≡ is_start c }
+{
+    is_xid_start(c) || c == '_'
+}
+
+pub fn is_continue(c: char) -> bool
+    ensures { result ≡ is_continue c }
+{
+    is_xid_continue(c)
+}
+
+/// The characters that a run goes on with.
+#[derive(Clone, Copy)]
+pub enum Class {
+    Identifier,
+    Digits,
+}
+
+impl Class {
+    pub fn has(self, c: char) -> bool
+        ensures { result ≡ has self c }
+    {
+        match self {
+            Class::Identifier => is_continue(c),
+            Class::Digits => c.is_ascii_digit(),
+        }
+    }
+}

@@ -1,0 +1,13 @@
+//! Laws of the grammar.
+ghost use Rattle.std.specs.Prelude.{◌≡◌, ◌↔◌, ◌++◌, List};
+ghost use Rattle.utopist_parser.specs.Symbols.{Symbol};
+ghost use Rattle.utopist_parser.specs.Grammar.{FileText, spell_file};
+ghost use Rattle.utopist_parser.specs.Begins.{BeginsFile};
+ghost use Rattle.utopist_parser.specs.Cases.{Form, AreForm, BeginForm, file_form};
+
+/// Symbols begin a form, case by case, exactly where some symbols of the form go on with them; and so for a file.
+pub fn symbols_begin_what_goes_on()
+    ensures forms { (f : Form) (ts : List Symbol) → BeginForm f ts ↔ ((more : List Symbol) × AreForm f (ts ++ more)) }
+    ensures files { (ts : List Symbol) → AreForm file_form ts ↔ ((w : FileText) × (spell_file w ≡ ts)) }
+    ensures begins { (ts : List Symbol) → BeginForm file_form ts ↔ BeginsFile ts }
+{}
