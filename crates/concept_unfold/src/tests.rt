@@ -26,7 +26,7 @@ fn fault(rule: Rule, at: u32, line: u32, col: u32) -> UnfoldFault {
 }
 
 /// What comes first: a rule of concepts that fails, or one of unfolding at the first compute statement. A text that
-/// doesn't read wants memory.
+/// doesn't read is `NoMem`, which no test expects.
 fn first_fault(alloc: Global, text: &str) -> Result<(), UnfoldFault> {
     let Ok(file) = read(alloc, text) else {
         return Err(UnfoldFault::NoMem);
