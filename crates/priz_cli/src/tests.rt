@@ -1,10 +1,13 @@
 // Whole runs: what is written, with which status.
+ghost use Rattle.std.specs.Prelude.{◌≤◌};
+
 use crate::outcome::status;
 use crate::top::{priz, run};
 use priz_base::{MAX_INPUT, MemSink, MemSource, StdSource, SureSource};
 use std::alloc::Global;
 use std::io;
 use std::io::Read;
+use std::process::Abort;
 use std::test::Fail;
 
 const ASKED: &[u8] =
@@ -139,56 +142,61 @@ fn says_what_is_wrong_with_the_bytes(rt: HostRuntime) -> Result<(), Fail> {
 }
 
 #[test]
-fn says_that_the_source_failed(rt: HostRuntime) -> Result<(), Fail> {
+fn says_that_the_reader_failed(rt: HostRuntime) -> Result<(), Fail> {
     let alloc = rt.alloc();
     let words = words_of(alloc, "solve")?;
     let mut sink = MemSink::new(alloc, 100, 100, &[]).expect(&rt, "room");
     let outcome = run(alloc, &words, &mut StdSource::new(Broken), &mut sink);
     assert_eq!(rt; status(&outcome), 4);
     assert_eq!(rt; sink.written(), b"priz: read fault\n".as_slice());
-    // The text has 85 bytes, and one more call finds its end.
-    for (most, at, ended, want) in [
-        (1, 0, 4, ""),
-        (1, 84, 4, ""),
-        (1, 85, 4, ""),
-        (1, 86, 0, SOLVED),
-        (10, 1, 4, ""),
-        (10, 9, 4, ""),
-        (10, 10, 0, SOLVED),
-    ] {
-        let fails = [at];
+    Ok(())
+}
+
+/// Each of the calls of the source fails in turn, and then one that isn't made.
+fn fail_the_source(rt: &impl Abort, alloc: Global, most: usize, calls: u64) -> Result<(), Fail>
+    requires { 1 ≤ most }
+{
+    let words = words_of(alloc, "solve")?;
+    for call in 0..=calls {
+        let fails = [call];
         let mut source = MemSource::new(ASKED, most, &fails);
-        let mut sink = MemSink::new(alloc, 100, 100, &[]).expect(&rt, "room");
+        let mut sink = MemSink::new(alloc, 100, 100, &[]).expect(rt, "room");
         let outcome = priz(alloc, &words, &mut source, &mut sink);
-        assert_eq!(rt; status(&outcome), ended, "{most} {at}");
-        assert_eq!(rt; sink.written(), want.as_bytes(), "{most} {at}");
+        let (ended, want) = if call < calls { (4, "") } else { (0, SOLVED) };
+        assert_eq!(*rt; status(&outcome), ended, "{most} {call}");
+        assert_eq!(*rt; sink.written(), want.as_bytes(), "{most} {call}");
+    }
+    Ok(())
+}
+
+/// Each of the calls of the sink fails in turn, and then one that isn't made.
+fn fail_the_sink(rt: &impl Abort, alloc: Global, most: usize, calls: u64) -> Result<(), Fail>
+    requires { 1 ≤ most }
+{
+    let words = words_of(alloc, "solve")?;
+    for call in 0..=calls {
+        let fails = [call];
+        let mut source = SureSource::new(ASKED, 100);
+        let mut sink = MemSink::new(alloc, 1000, most, &fails).expect(rt, "room");
+        let outcome = priz(alloc, &words, &mut source, &mut sink);
+        let ended = if call < calls { 5 } else { 0 };
+        let written = (call as usize).saturating_mul(most).min(SOLVED.len());
+        assert_eq!(*rt; status(&outcome), ended, "{most} {call}");
+        assert_eq!(*rt; sink.written().len(), written, "{most} {call}");
+        assert!(*rt;
+            SOLVED.as_bytes().starts_with(sink.written()),
+            "{most} {call}"
+        );
     }
     Ok(())
 }
 
 #[test]
-fn says_that_the_sink_failed(rt: HostRuntime) -> Result<(), Fail> {
+fn says_that_a_call_failed(rt: HostRuntime) -> Result<(), Fail> {
     let alloc = rt.alloc();
-    let words = words_of(alloc, "solve")?;
-    // The report has 52 bytes.
-    for (most, at, ended, written) in [
-        (1, 0, 5, 0),
-        (1, 51, 5, 51),
-        (1, 52, 0, 52),
-        (10, 1, 5, 10),
-        (10, 5, 5, 50),
-        (10, 6, 0, 52),
-    ] {
-        let fails = [at];
-        let mut source = SureSource::new(ASKED, 100);
-        let mut sink = MemSink::new(alloc, 1000, most, &fails).expect(&rt, "room");
-        let outcome = priz(alloc, &words, &mut source, &mut sink);
-        assert_eq!(rt; status(&outcome), ended, "{most} {at}");
-        assert_eq!(rt; sink.written().len(), written, "{most} {at}");
-        assert!(rt;
-            SOLVED.as_bytes().starts_with(sink.written()),
-            "{most} {at}"
-        );
-    }
-    Ok(())
+    // The text has 85 bytes, and one more call finds its end. The report has 52 bytes.
+    fail_the_source(&rt, alloc, 1, 86)?;
+    fail_the_source(&rt, alloc, 10, 10)?;
+    fail_the_sink(&rt, alloc, 1, 52)?;
+    fail_the_sink(&rt, alloc, 10, 6)
 }
