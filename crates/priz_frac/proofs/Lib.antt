@@ -1,0 +1,4 @@
+pub mod Divisors
+pub mod Lowest
+pub mod Products
+pub mod Unique

@@ -1,0 +1,9 @@
+pub mod Ratio
+pub mod Arithmetic
+pub mod Gcd
+pub mod Lowest
+pub mod Narrow
+pub mod Outcome
+pub mod Order
+pub mod Whole
+pub mod Sign

@@ -1,0 +1,67 @@
+-- The canonical text of an expression.
+use Rattle.std.specs.Prelude.{ℕ, ℤ, List, [], ◌++◌, codes}
+use Rattle.std.specs.Fmt.{signed_decimal}
+use Rattle.body_lang.specs.declared.op.Op.{Op}
+use Rattle.body_lang.specs.declared.op.Op.TheVariants.{Add, Sub, Mul, Div}
+use Rattle.body_lang.specs.declared.cmp.Cmp.{Cmp}
+use Rattle.body_lang.specs.declared.cmp.Cmp.TheVariants.{Less, AtMost, Same}
+use Rattle.body_lang.specs.declared.loop_kind.LoopKind.{LoopKind}
+use Rattle.body_lang.specs.declared.loop_kind.LoopKind.TheVariants.{Sum, Prod, Iter}
+use Rattle.utopist_syntax.specs.declared.position.Position.{Position}
+use Rattle.utopist_syntax.specs.declared.position.Position.TheVariants.{Alone, Compared, Negated, LeftOf, RightOf}
+use Rattle.utopist_syntax.specs.Tree.{Tree, Trees, num, path, neg, op, choice, loop, call, none, more}
+use Rattle.utopist_syntax.specs.PathText.{names_text}
+use Rattle.utopist_syntax.specs.Round.{round, rounds_op, rounds_choice}
+
+-- an operator, with its spaces
+abbrev pub op_text : Op → List ℕ
+op_text Add = codes " + "
+op_text Sub = codes " - "
+op_text Mul = codes " * "
+op_text Div = codes " / "
+
+-- a comparison, with its spaces
+abbrev pub cmp_text : Cmp → List ℕ
+cmp_text Less = codes " < "
+cmp_text AtMost = codes " <= "
+cmp_text Same = codes " = "
+
+-- the word of a loop
+abbrev pub loop_text : LoopKind → List ℕ
+loop_text Sum = codes "sum"
+loop_text Prod = codes "prod"
+loop_text Iter = codes "iter"
+
+-- a call of the k-th subtask, with the text of its arguments
+abbrev pub called : ℤ → List ℕ → List ℕ
+called k args = codes "$" ++ (signed_decimal k ++ (codes "(" ++ (args ++ codes ")")))
+
+abbrev mutual
+  -- an expression at its position
+  pub text_at : Position → Tree → List ℕ
+  text_at p (num n) = signed_decimal n
+  text_at p (path names) = names_text (codes ".") names
+  text_at p (neg a) = codes "-" ++ text_at Negated a
+  text_at p (op o a b) = round (rounds_op p o) (text_at (LeftOf o) a ++ (op_text o ++ text_at (RightOf o) b))
+  text_at p (choice c a b t e) =
+      round (rounds_choice p)
+      ((codes "if " ++ text_at Compared a) ++ ((cmp_text c ++ text_at Compared b)
+      ++ ((codes " then " ++ text_at Alone t) ++ (codes " else " ++ text_at Alone e))))
+  text_at p (loop kind name a b e) =
+      (loop_text kind ++ (codes "(" ++ name.text)) ++ ((codes ", " ++ text_at Alone a)
+      ++ ((codes ", " ++ text_at Alone b) ++ ((codes ", " ++ text_at Alone e) ++ codes ")")))
+  text_at p (call k place args) = called k (args_text args)
+
+  -- arguments joined by commas
+  pub args_text : Trees → List ℕ
+  args_text none = []
+  args_text (more a rest) = text_at Alone a ++ more_text rest
+
+  -- the arguments behind another
+  pub more_text : Trees → List ℕ
+  more_text none = []
+  more_text (more a rest) = codes ", " ++ (text_at Alone a ++ more_text rest)
+
+-- an expression on its own
+abbrev pub expr_text : Tree → List ℕ
+expr_text t = text_at Alone t

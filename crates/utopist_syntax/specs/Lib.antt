@@ -1,0 +1,10 @@
+pub mod Named
+pub mod Tree
+pub mod View
+pub mod PathText
+pub mod Round
+pub mod ExprText
+pub mod ItemText
+pub mod ConceptText
+pub mod ComputeText
+pub mod Canonical

@@ -1,0 +1,31 @@
+//! The tree of the language, and its canonical text.
+#![tactic(auto)]
+
+mod compute;
+mod concept;
+mod expr;
+mod file;
+mod item;
+mod name;
+mod path;
+mod pieces;
+mod position;
+mod print_binds;
+mod print_compute;
+mod print_concept;
+mod print_expr;
+mod print_file;
+mod print_item;
+mod print_parts;
+mod print_path;
+#[cfg(test)]
+mod tests;
+
+pub use compute::{Compute, GivenPath};
+pub use concept::Concept;
+pub use expr::Expr;
+pub use file::File;
+pub use item::{Bind, Item, Part, VarKind};
+pub use name::Name;
+pub use path::Path;
+pub use print_file::print;

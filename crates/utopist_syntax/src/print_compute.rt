@@ -1,0 +1,77 @@
+ghost use Rattle.std.specs.Prelude.{◌≡◌, ◌++◌, codes, OnOk};
+ghost use Rattle.std.specs.List.{join_by};
+ghost use Rattle.utopist_syntax.specs.ComputeText.{fraction_text, value_text, given_text, givens_text, compute_text};
+
+use crate::pieces::{print_if, print_number};
+use crate::print_path::{print_path, print_paths};
+use crate::{Compute, GivenPath};
+use priz_base::NoMem;
+use priz_frac::Frac;
+
+/// Appends a compute statement, on one line.
+pub fn print_compute(compute: &Compute, out: &mut Vec<u8>) -> Result<(), NoMem>
+    ensures { OnOk result (out.new.items ≡ out.old.items ++ compute_text compute.now) }
+{
+    out.extend_from_slice(b"compute ")?;
+    out.extend_from_slice(compute.name.text().as_bytes())?;
+    out.extend_from_slice(b" : ( ")?;
+    print_givens(compute.givens.as_slice(), out)?;
+    out.extend_from_slice(b"find ")?;
+    print_paths(compute.wants.as_slice(), out)?;
+    out.extend_from_slice(b" );\n")?;
+    Ok(())
+}
+
+fn print_givens(givens: &[GivenPath], out: &mut Vec<u8>) -> Result<(), NoMem>
+    ensures { OnOk result (out.new.items ≡ out.old.items ++ givens_text givens.now) }
+{
+    if givens.is_empty() {
+        return Ok(());
+    }
+    out.extend_from_slice(b"given ")?;
+    print_list(givens, out)?;
+    out.extend_from_slice(b"; ")?;
+    Ok(())
+}
+
+fn print_list(givens: &[GivenPath], out: &mut Vec<u8>) -> Result<(), NoMem>
+    ensures { OnOk result (out.new.items ≡ out.old.items ++ join_by given_text (codes ", ") givens.now) }
+{
+    let mut first = true;
+    for given in givens {
+        print_if(!first, b", ", out)?;
+        print_given(given, out)?;
+        first = false;
+    }
+    Ok(())
+}
+
+fn print_given(given: &GivenPath, out: &mut Vec<u8>) -> Result<(), NoMem>
+    ensures { OnOk result (out.new.items ≡ out.old.items ++ given_text given.now) }
+{
+    print_path(&given.path, out)?;
+    print_value(given.value, out)
+}
+
+fn print_value(value: Option<Frac>, out: &mut Vec<u8>) -> Result<(), NoMem>
+    ensures { OnOk result (out.new.items ≡ out.old.items ++ value_text value) }
+{
+    match value {
+        None => Ok(()),
+        Some(fraction) => {
+            out.extend_from_slice(b" = ")?;
+            print_fraction(fraction, out)
+        }
+    }
+}
+
+fn print_fraction(fraction: Frac, out: &mut Vec<u8>) -> Result<(), NoMem>
+    ensures { OnOk result (out.new.items ≡ out.old.items ++ fraction_text fraction) }
+{
+    print_number(fraction.num(), out)?;
+    if fraction.den() == 1 {
+        return Ok(());
+    }
+    out.push(b'/')?;
+    print_number(fraction.den(), out)
+}

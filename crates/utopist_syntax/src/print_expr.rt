@@ -1,0 +1,144 @@
+ghost use Rattle.std.specs.Prelude.{◌≡◌, ◌++◌, codes, OnOk};
+ghost use Rattle.utopist_syntax.specs.View.{tree_of, trees_of};
+ghost use Rattle.utopist_syntax.specs.ExprText.{op_text, cmp_text, loop_text, text_at, args_text, called, expr_text};
+
+use crate::pieces::{print_if, print_number};
+use crate::position::Position;
+use crate::print_path::print_path;
+use crate::{Expr, Name};
+use body_lang::{Cmp, LoopKind, Op};
+use priz_base::NoMem;
+
+/// Appends an expression that stands alone.
+pub fn print_expr(expr: &Expr, out: &mut Vec<u8>) -> Result<(), NoMem>
+    ensures { OnOk result (out.new.items ≡ out.old.items ++ expr_text (tree_of expr.now)) }
+{
+    print_at(Position::Alone, expr, out)
+}
+
+#[cycle(expr)]
+fn print_at(position: Position, expr: &Expr, out: &mut Vec<u8>) -> Result<(), NoMem>
+    ensures { OnOk result (out.new.items ≡ out.old.items ++ text_at position (tree_of expr.now)) }
+{
+    match expr {
+        Expr::Num(n) => print_number(*n, out),
+        Expr::Path(path) => print_path(path, out),
+        Expr::Neg(inner) => print_part(b"-", Position::Negated, inner.get(), out),
+        Expr::Op { op, left, right } => {
+            let round = position.is_round_for(*op);
+            print_if(round, b"(", out)?;
+            print_at(Position::LeftOf(*op), left.get(), out)?;
+            print_part(operator(*op), Position::RightOf(*op), right.get(), out)?;
+            print_if(round, b")", out)
+        }
+        Expr::If {
+            cmp,
+            left,
+            right,
+            yes,
+            no,
+        } => {
+            let round = position.is_round_for_choice();
+            print_if(round, b"(", out)?;
+            print_part(b"if ", Position::Compared, left.get(), out)?;
+            print_part(comparison(*cmp), Position::Compared, right.get(), out)?;
+            print_part(b" then ", Position::Alone, yes.get(), out)?;
+            print_part(b" else ", Position::Alone, no.get(), out)?;
+            print_if(round, b")", out)
+        }
+        Expr::Loop {
+            kind,
+            name,
+            first,
+            second,
+            each,
+        } => {
+            print_head(word(*kind), name, out)?;
+            print_part(b", ", Position::Alone, first.get(), out)?;
+            print_part(b", ", Position::Alone, second.get(), out)?;
+            print_part(b", ", Position::Alone, each.get(), out)?;
+            print_if(true, b")", out)
+        }
+        Expr::Call { k, place: _, args } => print_call(*k, args.as_slice(), out),
+    }
+}
+
+// A part of an expression, and what stands before it.
+#[cycle(expr)]
+fn print_part(
+    before: &[u8],
+    position: Position,
+    part: &Expr,
+    out: &mut Vec<u8>,
+) -> Result<(), NoMem>
+    ensures { OnOk result (out.new.items ≡ out.old.items ++ (before.now ++ text_at position (tree_of part.now))) }
+{
+    out.extend_from_slice(before)?;
+    print_at(position, part, out)
+}
+
+#[cycle(expr)]
+fn print_call(k: i64, args: &[Expr], out: &mut Vec<u8>) -> Result<(), NoMem>
+    ensures { OnOk result (out.new.items ≡ out.old.items ++ called k (args_text (trees_of args.now))) }
+{
+    out.push(b'$')?;
+    print_number(k, out)?;
+    out.push(b'(')?;
+    print_args(args, out)?;
+    out.push(b')')?;
+    Ok(())
+}
+
+#[cycle(expr)]
+fn print_args(args: &[Expr], out: &mut Vec<u8>) -> Result<(), NoMem>
+    ensures { OnOk result (out.new.items ≡ out.old.items ++ args_text (trees_of args.now)) }
+{
+    let mut first = true;
+    for arg in args {
+        print_if(!first, b", ", out)?;
+        print_at(Position::Alone, arg, out)?;
+        first = false;
+    }
+    Ok(())
+}
+
+// The word of a loop, and its name.
+fn print_head(word: &[u8], name: &Name, out: &mut Vec<u8>) -> Result<(), NoMem>
+    ensures { OnOk result (out.new.items ≡ out.old.items ++ (word.now ++ (codes "(" ++ name.now.text))) }
+{
+    out.extend_from_slice(word)?;
+    out.push(b'(')?;
+    out.extend_from_slice(name.text().as_bytes())?;
+    Ok(())
+}
+
+fn operator(op: Op) -> &'static [u8]
+    ensures { result.now ≡ op_text op }
+{
+    match op {
+        Op::Add => b" + ",
+        Op::Sub => b" - ",
+        Op::Mul => b" * ",
+        Op::Div => b" / ",
+    }
+}
+
+fn comparison(cmp: Cmp) -> &'static [u8]
+    ensures { result.now ≡ cmp_text cmp }
+{
+    match cmp {
+        Cmp::Less => b" < ",
+        Cmp::AtMost => b" <= ",
+        Cmp::Same => b" = ",
+    }
+}
+
+fn word(kind: LoopKind) -> &'static [u8]
+    ensures { result.now ≡ loop_text kind }
+{
+    match kind {
+        LoopKind::Sum => b"sum",
+        LoopKind::Prod => b"prod",
+        LoopKind::Iter => b"iter",
+    }
+}

@@ -1,0 +1,54 @@
+ghost use Rattle.std.specs.Prelude.{◌≡◌, ◌++◌, codes, OnOk};
+ghost use Rattle.std.specs.List.{join_by};
+ghost use Rattle.utopist_syntax.specs.ItemText.{task_text, part_text, parts_text};
+
+use crate::pieces::print_if;
+use crate::print_path::{print_path, print_paths};
+use crate::{Part, Path};
+use priz_base::NoMem;
+
+/// Appends the parts of a relation and a space, or nothing where there are none.
+pub fn print_parts(parts: &[Part], out: &mut Vec<u8>) -> Result<(), NoMem>
+    ensures { OnOk result (out.new.items ≡ out.old.items ++ parts_text parts.now) }
+{
+    if parts.is_empty() {
+        return Ok(());
+    }
+    print_list(parts, out)?;
+    out.push(b' ')?;
+    Ok(())
+}
+
+fn print_list(parts: &[Part], out: &mut Vec<u8>) -> Result<(), NoMem>
+    ensures { OnOk result (out.new.items ≡ out.old.items ++ join_by part_text (codes ", ") parts.now) }
+{
+    let mut first = true;
+    for part in parts {
+        print_if(!first, b", ", out)?;
+        print_part(part, out)?;
+        first = false;
+    }
+    Ok(())
+}
+
+fn print_part(part: &Part, out: &mut Vec<u8>) -> Result<(), NoMem>
+    ensures { OnOk result (out.new.items ≡ out.old.items ++ part_text part.now) }
+{
+    match part {
+        Part::Input(path) => print_path(path, out),
+        Part::Subtask { inputs, output } => {
+            out.push(b'[')?;
+            print_task(inputs.as_slice(), output, out)?;
+            print_if(true, b"]", out)
+        }
+    }
+}
+
+fn print_task(inputs: &[Path], output: &Path, out: &mut Vec<u8>) -> Result<(), NoMem>
+    ensures { OnOk result (out.new.items ≡ out.old.items ++ task_text inputs.now output.now) }
+{
+    print_paths(inputs, out)?;
+    print_if(!inputs.is_empty(), b" ", out)?;
+    out.extend_from_slice(b"-> ")?;
+    print_path(output, out)
+}
