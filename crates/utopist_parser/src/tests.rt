@@ -77,13 +77,21 @@ fn reads_a_whole_file(rt: HostRuntime) -> Result<(), Fail> {
     Ok(())
 }
 
-const EXPECTED: [(&str, u32, u32, u32); 23] = [
+const EXPECTED: [(&str, u32, u32, u32); 31] = [
     ("x", 0, 1, 1),
     ("7", 0, 1, 1),
     ("concept", 7, 1, 8),
     ("concept \n", 9, 2, 1),
     ("concept m ( );", 10, 1, 11),
     ("concept is : ( );", 8, 1, 9),
+    ("concept 1 : ( );", 8, 1, 9),
+    ("concept c.d : ( );", 9, 1, 10),
+    ("concept c : ( var : numeric; );", 18, 1, 19),
+    ("concept c : ( ) compute c : ( find a );", 16, 1, 17),
+    ("concept Concept : ( ); Compute c : ( find a );", 23, 1, 24),
+    ("compute c : ( given ; find a );", 20, 1, 21),
+    ("compute c : ( find a )", 22, 1, 23),
+    ("compute c : ( find a ); a", 24, 1, 25),
     ("concept c : ( )", 15, 1, 16),
     ("concept c : ( ); a", 17, 1, 18),
     ("concept c : ( ) ) $", 16, 1, 17),
@@ -115,14 +123,19 @@ fn blames_the_first_wrong_token(rt: HostRuntime) {
         "# only a comment",
         "concept c:();",
         "compute c:(find a);",
+        "concept isle : ( rel r : -> a; ); compute c : ( find a, a );",
+        "concept c:(var _a1:numeric;);compute c:(given a,b;find a);",
+        "concept c : ( # a note ) ;\n ); compute c : ( find a );\t\r\n#",
+        "concept c : ( rel r : a, b ->b; ); compute c : ( find a );",
     ] {
         assert_eq!(rt; short(rt.alloc(), text).err(), None, "{text}");
     }
 }
 
-const FAULTS: [(&str, u32, LexKind); 4] = [
+const FAULTS: [(&str, u32, LexKind); 5] = [
     ("concept c : 1x", 12, LexKind::BadNumber),
     ("concept c : ( ) $", 16, LexKind::BadNumber),
+    ("compute c : ( find a ); $", 24, LexKind::BadNumber),
     ("concept c : ( var a, b : numeric; >", 34, LexKind::BadChar),
     (
         "compute c : ( find 9223372036854775808",

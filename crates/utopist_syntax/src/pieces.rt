@@ -5,6 +5,14 @@ ghost use Rattle.utopist_syntax.specs.Round.{if_needed};
 use itoa::Buffer;
 use priz_base::NoMem;
 
+/// Appends a text.
+pub fn print_text(text: &[u8], out: &mut Vec<u8>) -> Result<(), NoMem>
+    ensures { OnOk result (out.new.items ≡ out.old.items ++ text.now) }
+{
+    out.extend_from_slice(text)?;
+    Ok(())
+}
+
 /// Appends a text where it is needed.
 pub fn print_if(needed: bool, text: &[u8], out: &mut Vec<u8>) -> Result<(), NoMem>
     ensures { OnOk result (out.new.items ≡ out.old.items ++ if_needed needed text.now) }

@@ -2,7 +2,7 @@ ghost use Rattle.std.specs.Prelude.{◌≡◌, ◌++◌, codes, OnOk};
 ghost use Rattle.utopist_syntax.specs.View.{tree_of, trees_of};
 ghost use Rattle.utopist_syntax.specs.ExprText.{op_text, cmp_text, loop_text, text_at, args_text, called, expr_text};
 
-use crate::pieces::{print_if, print_number};
+use crate::pieces::{print_if, print_number, print_text};
 use crate::position::Position;
 use crate::print_path::print_path;
 use crate::{Expr, Name};
@@ -57,7 +57,7 @@ fn print_at(position: Position, expr: &Expr, out: &mut Vec<u8>) -> Result<(), No
             print_part(b", ", Position::Alone, first.get(), out)?;
             print_part(b", ", Position::Alone, second.get(), out)?;
             print_part(b", ", Position::Alone, each.get(), out)?;
-            print_if(true, b")", out)
+            print_text(b")", out)
         }
         Expr::Call { k, place: _, args } => print_call(*k, args.as_slice(), out),
     }

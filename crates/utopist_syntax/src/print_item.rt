@@ -1,7 +1,7 @@
 ghost use Rattle.std.specs.Prelude.{◌≡◌, ◌++◌, OnOk};
 ghost use Rattle.utopist_syntax.specs.ItemText.{item_text, kind_text, body_text, var_text, eq_text, rel_text};
 
-use crate::pieces::print_if;
+use crate::pieces::print_text;
 use crate::print_binds::print_binds;
 use crate::print_expr::print_expr;
 use crate::print_parts::print_parts;
@@ -43,8 +43,8 @@ fn print_kind(kind: &VarKind, out: &mut Vec<u8>) -> Result<(), NoMem>
     ensures { OnOk result (out.new.items ≡ out.old.items ++ kind_text kind.now) }
 {
     match kind {
-        VarKind::Numeric => print_if(true, b"numeric", out),
-        VarKind::Of(name) => print_if(true, name.text().as_bytes(), out),
+        VarKind::Numeric => print_text(b"numeric", out),
+        VarKind::Of(name) => print_text(name.text().as_bytes(), out),
     }
 }
 

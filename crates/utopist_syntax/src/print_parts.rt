@@ -2,7 +2,7 @@ ghost use Rattle.std.specs.Prelude.{◌≡◌, ◌++◌, codes, OnOk};
 ghost use Rattle.std.specs.List.{join_by};
 ghost use Rattle.utopist_syntax.specs.ItemText.{task_text, part_text, parts_text};
 
-use crate::pieces::print_if;
+use crate::pieces::{print_if, print_text};
 use crate::print_path::{print_path, print_paths};
 use crate::{Part, Path};
 use priz_base::NoMem;
@@ -39,7 +39,7 @@ fn print_part(part: &Part, out: &mut Vec<u8>) -> Result<(), NoMem>
         Part::Subtask { inputs, output } => {
             out.push(b'[')?;
             print_task(inputs.as_slice(), output, out)?;
-            print_if(true, b"]", out)
+            print_text(b"]", out)
         }
     }
 }
