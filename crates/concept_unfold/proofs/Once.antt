@@ -8,7 +8,7 @@ use Rattle.std.proofs.lemmas.List.Elements.{All-head, All-tail, All-take}
 use Rattle.priz_base.specs.Sets.{Adds}
 use Rattle.priz_base.proofs.More.{map_more, same_members}
 use Rattle.priz_base.proofs.Members.{contains_here, contains_there, contains_cases, contains_none}
-use Rattle.utopist_parser.specs.Named.{Named}
+use Rattle.utopist_syntax.specs.Named.{Named}
 use Rattle.statement_set.specs.declared.given.Given.{Given}
 use Rattle.statement_set.specs.Problem.{Task}
 use Rattle.concept_unfold.specs.Declarations.{texts}

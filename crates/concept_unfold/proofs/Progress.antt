@@ -8,7 +8,7 @@ use Rattle.priz_base.proofs.More.{drop_at}
 use Rattle.statement_set.specs.declared.statement.Statement.{Statement}
 use Rattle.statement_set.specs.Problem.{Task}
 use Rattle.statement_set.proofs.Lists.{all_left, all_right, all_of_map}
-use Rattle.utopist_parser.specs.Named.{Named}
+use Rattle.utopist_syntax.specs.Named.{Named}
 use Rattle.utopist_parser.specs.declared.tree.Item.{Item}
 use Rattle.utopist_parser.specs.declared.tree.Item.TheVariants as item
 use Rattle.concept_unfold.specs.declared.fault.Rule.{Rule}

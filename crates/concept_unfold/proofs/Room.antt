@@ -1,7 +1,7 @@
 -- Room for more variables and statements.
 use Rattle.std.proofs.Common.{◌≡◌, ℕ, ◌+◌, ◌<◌, ◌≤◌, List, ◌++◌, length, drop, ap, arith, length-append, length-drop}
 use Rattle.std.proofs.lemmas.List.{length-map}
-use Rattle.utopist_parser.specs.Named.{Named}
+use Rattle.utopist_syntax.specs.Named.{Named}
 use Rattle.concept_unfold.specs.Declarations.{texts}
 
 -- where names are left, there is room for one

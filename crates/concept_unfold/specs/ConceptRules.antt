@@ -1,6 +1,6 @@
 -- The rules of concepts, in the order of the text: names are declared once, and before they are used.
 use Rattle.std.specs.Prelude.{ℕ, ◌+◌, List, [], ◌∷◌, ◌++◌, length, map}
-use Rattle.utopist_parser.specs.Named.{Named}
+use Rattle.utopist_syntax.specs.Named.{Named}
 use Rattle.utopist_parser.specs.declared.tree.Item.{Item}
 use Rattle.utopist_parser.specs.declared.tree.Item.TheVariants as item
 use Rattle.utopist_parser.specs.declared.tree.Concept.{Concept}

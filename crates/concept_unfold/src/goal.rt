@@ -8,7 +8,8 @@ use crate::numbers::var_of;
 use crate::rules::fault_at;
 use priz_base::{NoMem, VarSet};
 use statement_set::{Given, Problem};
-use utopist_parser::{Compute, Name};
+use utopist_parser::Compute;
+use utopist_syntax::Name;
 
 /// Adds what the compute statement gives and wants.
 pub(crate) fn add_goal(problem: &mut Problem, compute: &Compute) -> Result<(), UnfoldFault>

@@ -13,7 +13,8 @@ use priz_base::NoMem;
 use sqlite_items::Items;
 use statement_set::{Problem, Statement};
 use std::alloc::Global;
-use utopist_parser::{Item, Name};
+use utopist_parser::Item;
+use utopist_syntax::Name;
 
 /// Adds the variables and the statements of items to an empty problem.
 pub(crate) fn add_items(alloc: Global, problem: &mut Problem, items: &[Item]) -> Result<(), NoMem>

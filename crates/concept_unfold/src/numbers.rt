@@ -6,7 +6,7 @@ use priz_base::{NoMem, Var};
 use sqlite_items::Items;
 use statement_set::Problem;
 use std::alloc::Global;
-use utopist_parser::Name;
+use utopist_syntax::Name;
 
 /// The variable of that name.
 pub(crate) fn var_of(problem: &Problem, name: &Name) -> Var

@@ -5,7 +5,7 @@ ghost use Rattle.concept_unfold.specs.ConceptRules.{at_name, known_rows};
 
 use crate::fault::{Limit, ModelFault, Rule, UnfoldFault};
 use statement_set::Names;
-use utopist_parser::Name;
+use utopist_syntax::Name;
 
 /// A rule fails at this name.
 pub(crate) fn fault_at(name: &Name, rule: Rule) -> UnfoldFault

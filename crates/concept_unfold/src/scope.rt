@@ -8,7 +8,7 @@ use crate::rules::expect_new;
 use statement_set::Names;
 use std::alloc::Global;
 use std::marker::Model;
-use utopist_parser::Name;
+use utopist_syntax::Name;
 
 /// The names declared so far in a concept, and which of them are variables.
 #[derive(Drop)]

@@ -96,7 +96,7 @@ fn names_each_fault_at_its_place(rt: HostRuntime) {
     }
 }
 
-const TOKENS: [(&str, &[(Kind, u32)]); 3] = [
+const TOKENS: [(&str, &[(Kind, u32)]); 5] = [
     (
         "eq a1=2;",
         &[
@@ -128,6 +128,51 @@ const TOKENS: [(&str, &[(Kind, u32)]); 3] = [
             (Kind::Name, 21),
             (Kind::Word(Word::Iter), 27),
             (Kind::End, 31),
+        ],
+    ),
+    (
+        "concept is var numeric eq rel compute given find if then else sum prod iter",
+        &[
+            (Kind::Word(Word::Concept), 0),
+            (Kind::Word(Word::Is), 8),
+            (Kind::Word(Word::Var), 11),
+            (Kind::Word(Word::Numeric), 15),
+            (Kind::Word(Word::Eq), 23),
+            (Kind::Word(Word::Rel), 26),
+            (Kind::Word(Word::Compute), 30),
+            (Kind::Word(Word::Given), 38),
+            (Kind::Word(Word::Find), 44),
+            (Kind::Word(Word::If), 49),
+            (Kind::Word(Word::Then), 52),
+            (Kind::Word(Word::Else), 57),
+            (Kind::Word(Word::Sum), 62),
+            (Kind::Word(Word::Prod), 66),
+            (Kind::Word(Word::Iter), 71),
+            (Kind::End, 75),
+        ],
+    ),
+    (
+        "()[]{}:;,.=<<=+-*/->",
+        &[
+            (Kind::Mark(Mark::OpenRound), 0),
+            (Kind::Mark(Mark::CloseRound), 1),
+            (Kind::Mark(Mark::OpenSquare), 2),
+            (Kind::Mark(Mark::CloseSquare), 3),
+            (Kind::Mark(Mark::OpenCurly), 4),
+            (Kind::Mark(Mark::CloseCurly), 5),
+            (Kind::Mark(Mark::Colon), 6),
+            (Kind::Mark(Mark::Semicolon), 7),
+            (Kind::Mark(Mark::Comma), 8),
+            (Kind::Mark(Mark::Dot), 9),
+            (Kind::Mark(Mark::Equal), 10),
+            (Kind::Mark(Mark::Less), 11),
+            (Kind::Mark(Mark::AtMost), 12),
+            (Kind::Mark(Mark::Plus), 14),
+            (Kind::Mark(Mark::Minus), 15),
+            (Kind::Mark(Mark::Star), 16),
+            (Kind::Mark(Mark::Slash), 17),
+            (Kind::Mark(Mark::Arrow), 18),
+            (Kind::End, 20),
         ],
     ),
 ];

@@ -4,7 +4,7 @@ use Rattle.utopist_lexer.specs.declared.word.Word.TheVariants as words
 use Rattle.utopist_lexer.specs.declared.mark.Mark.TheVariants as marks
 use Rattle.utopist_lexer.specs.declared.token.Kind.TheVariants as kinds
 use Rattle.utopist_parser.specs.declared.tree.Compute.{Compute}
-use Rattle.utopist_parser.specs.Named.{Named}
+use Rattle.utopist_syntax.specs.Named.{Named}
 use Rattle.utopist_parser.specs.Symbols.{word}
 use Rattle.utopist_parser.specs.Grammar.{Names, ComputeText, spell_given, spell_compute, see_names, see_some, see_compute}
 use Rattle.utopist_parser.specs.Reading.{is_kind, given_at, givens_at, compute_at}

@@ -1,5 +1,5 @@
 -- The laws of a keyword, a mark or the end before another step, and of a name.
-use Rattle.std.proofs.Common.{◌≡◌, ℕ, Bool, true, false, cond, [], ◌∷◌, Option, Some, None, refl, sym, ap, ◌∙◌}
+use Rattle.std.proofs.Common.{◌≡◌, ℕ, Bool, true, false, cond, [], ◌∷◌, Option, Some, None, refl, sym, ap, subst, ◌∙◌}
 use Rattle.std.specs.Prelude.{ℤ}
 use Rattle.std.proofs.lemmas.Bool.Decides.{Decides-int_eq}
 use Rattle.std.proofs.lemmas.Slice.Eq.{bytes_eq-Decides}
@@ -8,11 +8,11 @@ use Rattle.utopist_lexer.specs.declared.mark.Mark.{Mark}
 use Rattle.utopist_lexer.specs.declared.token.Kind.{Kind}
 use Rattle.utopist_lexer.specs.declared.token.Kind.TheVariants as kinds
 use Rattle.utopist_lexer.specs.Places.{first_place}
-use Rattle.utopist_parser.specs.Named.{Named}
+use Rattle.utopist_syntax.specs.Named.{Named}
 use Rattle.utopist_lexer.specs.Spelling.{word_text, mark_text}
 use Rattle.utopist_lexer.specs.Kinds.{same_kind}
 use Rattle.utopist_lexer.specs.Tables.{word_of, mark_at}
-use Rattle.utopist_parser.specs.Symbols.{Symbol, name, fixed}
+use Rattle.utopist_parser.specs.Symbols.{Symbol, name, sub, fixed}
 use Rattle.utopist_parser.specs.Steps.{StepOf, ◌>>=◌}
 use Rattle.utopist_parser.specs.Reading.{want_kind, want_name, fixed_at, name_at}
 use Rattle.utopist_lexer.proofs.Spellings.{word_of-text, mark_at-text}
@@ -61,12 +61,22 @@ fixed_form k = one_symbol (λ u. fixed k)
 abbrev pub after : {Y : Type 0} → Kind → Form Y → Form Y
 after k d = recast (both (fixed_form k) d) (λ y. fixed k ∷ d.spell y) (λ y. (tt, y))
 
-module _ (k : Kind) (not_name : k ≡ kinds.Name → ⊥) where
+-- a kind of which the kind alone counts
+abbrev pub IsFixed : Kind → Type 0
+IsFixed kinds.Name = ⊥
+IsFixed (kinds.Word w) = One
+IsFixed (kinds.Number i) = One
+IsFixed (kinds.Sub i) = ⊥
+IsFixed (kinds.Mark m) = One
+IsFixed kinds.End = One
+
+module _ (k : Kind) (is_fixed : IsFixed k) where
   fixed_found : (u : One) → want_kind k (fixed k) ≡ Some tt
   fixed_found u = rw (same_kind-refl k) refl
 
   fixed_finds : (c : Symbol) (v : One) → want_kind k c ≡ Some v → (x : One) × (c ≡ fixed k) × (tt ≡ v)
-  fixed_finds (name n) v e = absurd (not_name (sym (same_kind-true kinds.Name k (wanted (same_kind kinds.Name k) v e))))
+  fixed_finds (name n) v e = absurd (subst IsFixed (sym (same_kind-true kinds.Name k (wanted (same_kind kinds.Name k) v e))) is_fixed)
+  fixed_finds (sub i p) v e = absurd (subst IsFixed (sym (same_kind-true (kinds.Sub i) k (wanted (same_kind (kinds.Sub i) k) v e))) is_fixed)
   fixed_finds (fixed j) v e = (tt, ap (λ (x : Kind). fixed x) (same_kind-true j k (wanted (same_kind j k) v e)), refl)
 
   fixed_laws : (room : ℕ) → Laws (fixed_form k) (λ u. tt) (fixed_at k) room
@@ -82,6 +92,7 @@ module _ (k : Kind) (not_name : k ≡ kinds.Name → ⊥) where
 
 name_finds : (c : Symbol) (n : Named) → want_name c ≡ Some n → (x : Named) × (c ≡ name x) × (x ≡ n)
 name_finds (name m) n e = (m, refl, some_same m n e)
+name_finds (sub i p) n e = absurd cc
 name_finds (fixed k) n e = absurd cc
 
 -- some name

@@ -7,7 +7,7 @@ use Rattle.utopist_lexer.specs.declared.token.Kind.TheVariants as kinds
 use Rattle.utopist_parser.specs.declared.tree.Item.{Item}
 use Rattle.utopist_parser.specs.declared.tree.Item.TheVariants as items
 use Rattle.utopist_parser.specs.declared.tree.Concept.{Concept}
-use Rattle.utopist_parser.specs.Named.{Named}
+use Rattle.utopist_syntax.specs.Named.{Named}
 use Rattle.utopist_parser.specs.Symbols.{Symbol, mark}
 use Rattle.utopist_parser.specs.Grammar.{Names, ItemText, var, rel, ConceptText, spell_item, spell_concept, see_names, see_some, see_item, see_concept}
 use Rattle.utopist_parser.specs.Steps.{next, meets}

@@ -3,7 +3,7 @@ use Rattle.std.proofs.Common.{◌≡◌, List, [], ◌∷◌, map, refl, ap}
 use Rattle.utopist_lexer.specs.declared.mark.Mark.{Mark}
 use Rattle.utopist_lexer.specs.declared.mark.Mark.TheVariants as marks
 use Rattle.utopist_lexer.specs.declared.token.Kind.TheVariants as kinds
-use Rattle.utopist_parser.specs.Named.{Named}
+use Rattle.utopist_syntax.specs.Named.{Named}
 use Rattle.utopist_parser.specs.Grammar.{Names, spell_names, see_names}
 use Rattle.utopist_parser.specs.Steps.{◌>>=◌, give, repeat_at}
 use Rattle.utopist_parser.specs.Reading.{fixed_at, is_comma, next_name_at, names_at}

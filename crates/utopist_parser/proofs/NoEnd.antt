@@ -9,12 +9,13 @@ use Rattle.utopist_lexer.specs.declared.token.Kind.{Kind}
 use Rattle.utopist_lexer.specs.declared.token.Kind.TheVariants as kinds
 use Rattle.utopist_lexer.specs.Lexical.{Tok, IsToken}
 use Rattle.utopist_lexer.specs.Tokens.{ReadsTo}
-use Rattle.utopist_parser.specs.Named.{Named}
-use Rattle.utopist_parser.specs.Symbols.{Symbol, name, fixed, word, mark, symbol_of, end}
+use Rattle.utopist_syntax.specs.Named.{Named}
+use Rattle.utopist_parser.specs.Symbols.{Symbol, name, sub, fixed, word, mark, symbol_of, end}
 use Rattle.utopist_parser.specs.Grammar.{Names, ItemText, var, rel, ConceptText, ComputeText, FileText, spell_next, spell_names, spell_optional, spell_item, spell_concept, spell_given, spell_compute, spell_file}
 
 abbrev pub NotEnd : Symbol → Type 0
 NotEnd (name n) = Unit {0}
+NotEnd (sub i p) = Unit {0}
 NotEnd (fixed k) = k ≡ kinds.End → ⊥
 
 abbrev pub NoEnd : List Symbol → Type 0
@@ -29,7 +30,7 @@ token_no_end t rest token = at t.kind token where
   at kinds.Name s = tt
   at (kinds.Word w) s = λ e. absurd cc
   at (kinds.Number i) s = λ e. absurd cc
-  at (kinds.Sub i) s = λ e. absurd cc
+  at (kinds.Sub i) s = tt
   at (kinds.Mark m) s = λ e. absurd cc
   at kinds.End s = absurd s.longest.spelled
 

@@ -14,7 +14,7 @@ use Rattle.utopist_parser.proofs.Sequence.{both, then_laws, map_laws}
 use Rattle.utopist_parser.proofs.Recast.{recast, recast_laws}
 use Rattle.utopist_parser.proofs.Choice.{either, see_either, choose_laws, nothing, give_laws}
 use Rattle.utopist_parser.proofs.Repeat.{repeated, repeat_laws}
-use Rattle.utopist_parser.proofs.Fixed.{after, after_laws, some_name, name_form, name_laws}
+use Rattle.utopist_parser.proofs.Fixed.{IsFixed, after, after_laws, some_name, name_form, name_laws}
 
 -- any symbol may stand there
 abbrev Any : Option Symbol → Type 0
@@ -33,22 +33,22 @@ pub name_rule : Rule name_form (λ n. n) name_at
 name_rule = record { laws = name_laws; some = some_name; fits = λ n M. tt; enters = λ o. tt }
 
 -- a fixed symbol, and then what follows
-after_rule : {Y V : Type 0} {d : Form Y} {see : Y → V} {f : StepOf V} (k : Kind) → (k ≡ kinds.Name → ⊥) → Rule d see f → Rule (after k d) see (fixed_at k >>= λ u. f)
-after_rule {d = d} {see = see} {f = f} k not_name r = record {
-  laws = λ room. after_laws k not_name d see f room (r.laws room) r.enters r.some (r.fits r.some room);
+after_rule : {Y V : Type 0} {d : Form Y} {see : Y → V} {f : StepOf V} (k : Kind) → IsFixed k → Rule d see f → Rule (after k d) see (fixed_at k >>= λ u. f)
+after_rule {d = d} {see = see} {f = f} k is_fixed r = record {
+  laws = λ room. after_laws k is_fixed d see f room (r.laws room) r.enters r.some (r.fits r.some room);
   some = r.some;
   fits = λ y M. (tt, r.fits y M);
   enters = λ o. tt;
 }
 
 pub after_word : {Y V : Type 0} {d : Form Y} {see : Y → V} {f : StepOf V} (w : Word) → Rule d see f → Rule (after (kinds.Word w) d) see (fixed_at (kinds.Word w) >>= λ u. f)
-after_word w r = after_rule (kinds.Word w) (λ e. absurd cc) r
+after_word w r = after_rule (kinds.Word w) tt r
 
 pub after_mark : {Y V : Type 0} {d : Form Y} {see : Y → V} {f : StepOf V} (m : Mark) → Rule d see f → Rule (after (kinds.Mark m) d) see (fixed_at (kinds.Mark m) >>= λ u. f)
-after_mark m r = after_rule (kinds.Mark m) (λ e. absurd cc) r
+after_mark m r = after_rule (kinds.Mark m) tt r
 
 pub after_end : {Y V : Type 0} {d : Form Y} {see : Y → V} {f : StepOf V} → Rule d see f → Rule (after kinds.End d) see (fixed_at kinds.End >>= λ u. f)
-after_end r = after_rule kinds.End (λ e. absurd cc) r
+after_end r = after_rule kinds.End tt r
 
 -- nothing more
 abbrev pub done : Form (Unit {0})

@@ -8,8 +8,8 @@ use Rattle.utopist_lexer.specs.declared.mark.Mark.{Mark}
 use Rattle.utopist_lexer.specs.declared.mark.Mark.TheVariants as marks
 use Rattle.utopist_lexer.specs.declared.token.Kind.{Kind}
 use Rattle.utopist_lexer.specs.declared.token.Kind.TheVariants as kinds
-use Rattle.utopist_parser.specs.Named.{Named}
-use Rattle.utopist_parser.specs.Symbols.{Symbol, name, fixed, mark, end}
+use Rattle.utopist_syntax.specs.Named.{Named}
+use Rattle.utopist_parser.specs.Symbols.{Symbol, name, sub, fixed, mark, end}
 use Rattle.utopist_parser.specs.Grammar.{Names, ItemText, var, rel, FileText, spell_next, spell_names, spell_optional, spell_item, spell_concept, spell_given, spell_compute, spell_file}
 use Rattle.utopist_parser.specs.Begins.{BeginsFile}
 use Rattle.utopist_parser.specs.Cases.{Form, a_name, one, then, many, IsName, joined, AreForm, BeginForm, after_word, optional, stop, names_form, var_form, rel_form, item_form, concept_form, compute_form, file_form}
@@ -24,6 +24,7 @@ same_name : Same a_name (λ (n : Named). name n ∷ [])
 same_name = record { read = read_name; write = λ n. (name n, refl, tt) } where
   named : (c : Symbol) (ts : List Symbol) → ts ≡ c ∷ [] → IsName c → (n : Named) × (name n ∷ [] ≡ ts)
   named (name n) ts e i = (n, sym e)
+  named (sub k p) ts e i = absurd i
   named (fixed k) ts e i = absurd i
 
   read_name : (ts : List Symbol) → AreForm a_name ts → (n : Named) × (name n ∷ [] ≡ ts)

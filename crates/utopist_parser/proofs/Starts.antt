@@ -6,7 +6,7 @@ use Rattle.utopist_lexer.specs.declared.mark.Mark.TheVariants as marks
 use Rattle.utopist_lexer.specs.declared.token.Kind.TheVariants as kinds
 use Rattle.utopist_parser.specs.declared.tree.Concept.{Concept}
 use Rattle.utopist_parser.specs.declared.tree.Compute.{Compute}
-use Rattle.utopist_parser.specs.Named.{Named}
+use Rattle.utopist_syntax.specs.Named.{Named}
 use Rattle.utopist_parser.specs.Symbols.{Symbol}
 use Rattle.utopist_parser.specs.Steps.{next, meets, repeat_at}
 use Rattle.utopist_parser.specs.Reading.{fixed_at, name_at, is_comma, next_name_at, names_at, begins_item, item_at, items_at, begins_concept, concept_at, concepts_at, begins_compute, compute_at, computes_at}

@@ -6,7 +6,7 @@ use Rattle.utopist_lexer.specs.declared.mark.Mark.{Mark}
 use Rattle.utopist_lexer.specs.declared.mark.Mark.TheVariants as marks
 use Rattle.utopist_lexer.specs.declared.token.Kind.{Kind}
 use Rattle.utopist_lexer.specs.declared.token.Kind.TheVariants as kinds
-use Rattle.utopist_parser.specs.Symbols.{Symbol, name, fixed}
+use Rattle.utopist_parser.specs.Symbols.{Symbol, name, sub, fixed}
 
 -- a form: nothing, a name, a fixed token, one form and then another, one form or another, a form any number of times
 pub data Form : Type 0 where
@@ -20,6 +20,7 @@ pub data Form : Type 0 where
 -- a name
 abbrev pub IsName : Symbol → Type 0
 IsName (name n) = Unit {0}
+IsName (sub i p) = ⊥
 IsName (fixed k) = ⊥
 
 -- parts one after another

@@ -1,4 +1,3 @@
-pub mod Named
 pub mod Symbols
 pub mod Views
 pub mod Grammar
@@ -8,3 +7,14 @@ pub mod Forms
 pub mod Steps
 pub mod Reading
 pub mod Answers
+pub mod Written
+pub mod ExprSymbols
+pub mod ExprTree
+pub mod Nesting
+pub mod Arithmetic
+pub mod WrittenFile
+pub mod FileSymbols
+pub mod FileSeen
+pub mod FileNesting
+pub mod Examples
+pub mod FileExample

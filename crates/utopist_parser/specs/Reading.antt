@@ -9,14 +9,15 @@ use Rattle.utopist_parser.specs.declared.tree.Item.TheVariants as items
 use Rattle.utopist_parser.specs.declared.tree.Concept.{Concept}
 use Rattle.utopist_parser.specs.declared.tree.Compute.{Compute}
 use Rattle.utopist_parser.specs.declared.tree.File.{File}
-use Rattle.utopist_parser.specs.Named.{Named}
+use Rattle.utopist_syntax.specs.Named.{Named}
 use Rattle.utopist_lexer.specs.Kinds.{same_kind}
-use Rattle.utopist_parser.specs.Symbols.{Symbol, name, fixed}
+use Rattle.utopist_parser.specs.Symbols.{Symbol, name, sub, fixed}
 use Rattle.utopist_parser.specs.Steps.{StepOf, ◌>>=◌, give, token_at, choose_at, repeat_at}
 
 -- the kind of a symbol
 abbrev pub kind_of : Symbol → Kind
 kind_of (name n) = kinds.Name
+kind_of (sub i p) = kinds.Sub i
 kind_of (fixed k) = k
 
 -- whether a symbol is of this kind
@@ -30,6 +31,7 @@ want_kind k c = if is_kind k c then Some tt else None
 -- a name
 abbrev pub want_name : Symbol → Option Named
 want_name (name n) = Some n
+want_name (sub i p) = None
 want_name (fixed k) = None
 
 -- a keyword, a mark or the end

@@ -8,10 +8,11 @@ ghost use Rattle.utopist_parser.specs.Symbols.{symbols};
 use crate::names::names_at;
 use crate::step::{fixed_at, name_at, next_is};
 use crate::stop::Stop;
-use crate::tree::{Compute, Name};
+use crate::tree::Compute;
 use sqlite_items::Items;
 use std::alloc::Global;
 use utopist_lexer::{Kind, Mark, Token, Word};
+use utopist_syntax::Name;
 
 const COMPUTE: Kind = Kind::Word(Word::Compute);
 

@@ -4,10 +4,22 @@ ghost use Rattle.utopist_parser.specs.Symbols.{Symbol};
 ghost use Rattle.utopist_parser.specs.Grammar.{FileText, spell_file};
 ghost use Rattle.utopist_parser.specs.Begins.{BeginsFile};
 ghost use Rattle.utopist_parser.specs.Cases.{Form, AreForm, BeginForm, file_form};
+ghost use Rattle.utopist_parser.specs.Examples.{DifferencesGroupFromTheLeft, ParenthesesVanish, ChoicesHoldCallsAndLoops, EachTermAndEachParenthesisCounts, NumbersAreInLowestTerms};
+ghost use Rattle.utopist_parser.specs.FileExample.{AFileIsRead};
 
 /// Symbols begin a form, case by case, exactly where some symbols of the form go on with them; and so for a file.
 pub fn symbols_begin_what_goes_on()
     ensures forms { (f : Form) (ts : List Symbol) → BeginForm f ts ↔ ((more : List Symbol) × AreForm f (ts ++ more)) }
     ensures files { (ts : List Symbol) → AreForm file_form ts ↔ ((w : FileText) × (spell_file w ≡ ts)) }
     ensures begins { (ts : List Symbol) → BeginForm file_form ts ↔ BeginsFile ts }
+{}
+
+/// The grammar gives these examples the symbols, the tree and the nesting that they must have.
+pub fn examples_are_read_as_they_should()
+    ensures left { DifferencesGroupFromTheLeft }
+    ensures parentheses { ParenthesesVanish }
+    ensures choices { ChoicesHoldCallsAndLoops }
+    ensures nesting { EachTermAndEachParenthesisCounts }
+    ensures numbers { NumbersAreInLowestTerms }
+    ensures file { AFileIsRead }
 {}

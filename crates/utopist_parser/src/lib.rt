@@ -14,6 +14,6 @@ mod stop;
 mod tests;
 mod tree;
 
-pub use laws::symbols_begin_what_goes_on;
+pub use laws::{examples_are_read_as_they_should, symbols_begin_what_goes_on};
 pub use parser::{ParseFault, parse};
-pub use tree::{Compute, Concept, File, Item, Name};
+pub use tree::{Compute, Concept, File, Item};

@@ -6,10 +6,10 @@ ghost use Rattle.utopist_parser.specs.Symbols.{symbols};
 
 use crate::step::{fixed_at, name_at, next_is};
 use crate::stop::Stop;
-use crate::tree::Name;
 use sqlite_items::Items;
 use std::alloc::Global;
 use utopist_lexer::{Kind, Mark, Token};
+use utopist_syntax::Name;
 
 const COMMA: Kind = Kind::Mark(Mark::Comma);
 

@@ -6,9 +6,9 @@ ghost use Rattle.utopist_parser.specs.Steps.{next, meets};
 ghost use Rattle.utopist_parser.specs.Symbols.{symbols};
 
 use crate::stop::Stop;
-use crate::tree::Name;
 use std::alloc::Global;
 use utopist_lexer::{Kind, Token};
+use utopist_syntax::Name;
 
 pub fn next_is(tokens: &[Token], kind: Kind) -> bool
     ensures { result ≡ meets (is_kind kind) (next (symbols tokens.now)) }

@@ -1,10 +1,11 @@
 // Trees, and first wrong places that were counted by hand.
-use crate::{File, Item, Name, ParseFault, parse};
+use crate::{File, Item, ParseFault, parse};
 use priz_base::Place;
 use sqlite_items::Items;
 use std::alloc::Global;
 use std::test::Fail;
 use utopist_lexer::{LexFault, LexKind};
+use utopist_syntax::Name;
 
 const WHOLE: &str =
     "concept m : ( var a, b : numeric; rel r : a -> b; );\nconcept n:();\ncompute m : ( given a; find b ); compute n:(find c,c); # end";

@@ -1,6 +1,7 @@
 pub mod Named
 pub mod Tree
 pub mod View
+pub mod FileTree
 pub mod PathText
 pub mod Round
 pub mod ExprText

@@ -20,6 +20,8 @@ mod print_parts;
 mod print_path;
 #[cfg(test)]
 mod tests;
+#[cfg(test)]
+mod tests_divider;
 
 pub use compute::{Compute, GivenPath};
 pub use concept::Concept;

@@ -11,18 +11,18 @@ use std::alloc::Global;
 use std::test::Fail;
 
 #[derive(Clone, Copy)]
-struct Make {
-    alloc: Global,
+pub(crate) struct Make {
+    pub(crate) alloc: Global,
 }
 
-const PLACE: Place = Place {
+pub(crate) const PLACE: Place = Place {
     at: 0,
     line: 1,
     col: 1,
 };
 
 impl Make {
-    fn names(self, texts: &[&str]) -> Result<Items<Name>, NoMem> {
+    pub(crate) fn names(self, texts: &[&str]) -> Result<Items<Name>, NoMem> {
         let mut names = Items::new(self.alloc);
         for text in texts {
             names.push(Name::new(self.alloc, text, PLACE)?)?;
@@ -30,13 +30,13 @@ impl Make {
         Ok(names)
     }
 
-    fn path(self, texts: &[&str]) -> Result<Path, NoMem> {
+    pub(crate) fn path(self, texts: &[&str]) -> Result<Path, NoMem> {
         Ok(Path {
             parts: self.names(texts)?,
         })
     }
 
-    fn paths(self, texts: &[&str]) -> Result<Items<Path>, NoMem> {
+    pub(crate) fn paths(self, texts: &[&str]) -> Result<Items<Path>, NoMem> {
         let mut paths = Items::new(self.alloc);
         for text in texts {
             paths.push(self.path(&[*text])?)?;
@@ -44,47 +44,47 @@ impl Make {
         Ok(paths)
     }
 
-    fn var(self, text: &str) -> Result<Expr, NoMem> {
+    pub(crate) fn var(self, text: &str) -> Result<Expr, NoMem> {
         Ok(Expr::Path(self.path(&[text])?))
     }
 
-    fn inner(self, component: &str, text: &str) -> Result<Expr, NoMem> {
+    pub(crate) fn inner(self, component: &str, text: &str) -> Result<Expr, NoMem> {
         Ok(Expr::Path(self.path(&[component, text])?))
     }
 
-    fn boxed(self, expr: Expr) -> Result<Boxed<Expr>, NoMem> {
+    pub(crate) fn boxed(self, expr: Expr) -> Result<Boxed<Expr>, NoMem> {
         Ok(Boxed::new(self.alloc, expr)?)
     }
 
-    fn neg(self, expr: Expr) -> Result<Expr, NoMem> {
+    pub(crate) fn neg(self, expr: Expr) -> Result<Expr, NoMem> {
         Ok(Expr::Neg(self.boxed(expr)?))
     }
 
-    fn op(self, left: Expr, op: Op, right: Expr) -> Result<Expr, NoMem> {
+    pub(crate) fn op(self, left: Expr, op: Op, right: Expr) -> Result<Expr, NoMem> {
         let left = self.boxed(left)?;
         let right = self.boxed(right)?;
         Ok(Expr::Op { op, left, right })
     }
 
     // `a OP b`
-    fn pair(self, left: &str, op: Op, right: &str) -> Result<Expr, NoMem> {
+    pub(crate) fn pair(self, left: &str, op: Op, right: &str) -> Result<Expr, NoMem> {
         self.op(self.var(left)?, op, self.var(right)?)
     }
 
     // `a OUTER (b INNER c)`
-    fn right(self, outer: Op, inner: Op) -> Result<Expr, NoMem> {
+    pub(crate) fn right(self, outer: Op, inner: Op) -> Result<Expr, NoMem> {
         let part = self.pair("b", inner, "c")?;
         self.op(self.var("a")?, outer, part)
     }
 
     // `(a INNER b) OUTER c`
-    fn left(self, inner: Op, outer: Op) -> Result<Expr, NoMem> {
+    pub(crate) fn left(self, inner: Op, outer: Op) -> Result<Expr, NoMem> {
         let part = self.pair("a", inner, "b")?;
         self.op(part, outer, self.var("c")?)
     }
 
     // `if LEFT CMP e then f else NO`
-    fn choice(self, left: Expr, cmp: Cmp, no: Expr) -> Result<Expr, NoMem> {
+    pub(crate) fn choice(self, left: Expr, cmp: Cmp, no: Expr) -> Result<Expr, NoMem> {
         Ok(Expr::If {
             cmp,
             left: self.boxed(left)?,
@@ -95,12 +95,12 @@ impl Make {
     }
 
     // `if a CMP e then f else g`
-    fn small(self, cmp: Cmp) -> Result<Expr, NoMem> {
+    pub(crate) fn small(self, cmp: Cmp) -> Result<Expr, NoMem> {
         self.choice(self.var("a")?, cmp, self.var("g")?)
     }
 
     // `KIND(i, 1, n, EACH)`
-    fn turns(self, kind: LoopKind, each: Expr) -> Result<Expr, NoMem> {
+    pub(crate) fn turns(self, kind: LoopKind, each: Expr) -> Result<Expr, NoMem> {
         let mut names = self.names(&["i"])?;
         let Some(name) = names.pop() else {
             return Err(NoMem);
@@ -115,7 +115,7 @@ impl Make {
     }
 
     // `$k(a, LAST)`
-    fn call(self, k: i64, last: Expr) -> Result<Expr, NoMem> {
+    pub(crate) fn call(self, k: i64, last: Expr) -> Result<Expr, NoMem> {
         let mut args = Items::new(self.alloc);
         args.push(self.var("a")?)?;
         args.push(last)?;
@@ -126,7 +126,7 @@ impl Make {
         })
     }
 
-    fn vars(self, texts: &[&str]) -> Result<Item, NoMem> {
+    pub(crate) fn vars(self, texts: &[&str]) -> Result<Item, NoMem> {
         Ok(Item::Var {
             names: self.names(texts)?,
             kind: VarKind::Numeric,
@@ -134,7 +134,7 @@ impl Make {
         })
     }
 
-    fn given(self, texts: &[&str], value: Option<Frac>) -> Result<GivenPath, NoMem> {
+    pub(crate) fn given(self, texts: &[&str], value: Option<Frac>) -> Result<GivenPath, NoMem> {
         Ok(GivenPath {
             path: self.path(texts)?,
             value,

@@ -2,7 +2,7 @@ use Rattle.std.proofs.Common.{◌+◌, ℕ, List, [], ◌∷◌, ◌++◌, take,
 use Rattle.std.specs.Prelude.{Contains}
 use Rattle.priz_base.proofs.Deciding.{not_so}
 use Rattle.priz_base.proofs.More.{map_more}
-use Rattle.utopist_parser.specs.Named.{Named}
+use Rattle.utopist_syntax.specs.Named.{Named}
 use Rattle.statement_set.specs.Problem.{Task}
 use Rattle.concept_unfold.specs.declared.fault.Rule.TheVariants as rule
 use Rattle.concept_unfold.specs.Declarations.{texts}

@@ -1,6 +1,6 @@
 use Rattle.std.proofs.Common.{ℕ, List, subst, sym, ap}
 use Rattle.statement_set.specs.Problem.{Task}
-use Rattle.utopist_parser.specs.Named.{Named}
+use Rattle.utopist_syntax.specs.Named.{Named}
 use Rattle.concept_unfold.specs.Unfolded.{AreKnown}
 use Rattle.concept_unfold.proofs.goal.add_goal.Goals as goal
 

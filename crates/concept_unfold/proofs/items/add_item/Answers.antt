@@ -1,5 +1,5 @@
 use Rattle.std.proofs.Common.{List, subst, sym}
-use Rattle.utopist_parser.specs.Named.{Named}
+use Rattle.utopist_syntax.specs.Named.{Named}
 use Rattle.concept_unfold.specs.Unfolded.{AreKnown}
 use Rattle.concept_unfold.proofs.Progress.{inputs_known, output_known}
 use Rattle.concept_unfold.proofs.items.add_item.Goals as goal

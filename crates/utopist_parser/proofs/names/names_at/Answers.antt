@@ -1,6 +1,6 @@
 use Rattle.std.proofs.Common.{◌≡◌, List, [], ◌∷◌, ◌++◌, sym, ap, subst, ◌∙◌, arith}
 use Rattle.std.proofs.lemmas.Result.{err_from_is_err_and}
-use Rattle.utopist_parser.specs.Named.{Named}
+use Rattle.utopist_syntax.specs.Named.{Named}
 use Rattle.utopist_parser.specs.Symbols.{symbols}
 use Rattle.utopist_parser.specs.Reading.{is_comma, next_name_at, names_at}
 use Rattle.utopist_parser.proofs.Loops.{SoFar, goes_on, ends, fails, fewer}

@@ -2,7 +2,7 @@ use Rattle.std.proofs.Common.{◌+◌, List, [], ◌∷◌, ◌++◌, drop, refl
 use Rattle.std.proofs.lemmas.Result.{err_from_is_err_and}
 use Rattle.concept_unfold.specs.declared.fault.Rule.TheVariants as rule
 use Rattle.concept_unfold.specs.Rows.{is_new, Row}
-use Rattle.utopist_parser.specs.Named.{Named}
+use Rattle.utopist_syntax.specs.Named.{Named}
 use Rattle.concept_unfold.specs.ConceptRules.{at_name, once_rows}
 use Rattle.concept_unfold.specs.Declarations.{texts}
 use Rattle.concept_unfold.proofs.Names.{gathered_more}
