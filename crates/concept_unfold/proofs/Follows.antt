@@ -7,11 +7,10 @@ use Rattle.std.proofs.lemmas.Option.{slice_get_read}
 use Rattle.std.proofs.lemmas.List.Elements.{All-contains}
 use Rattle.statement_set.proofs.Lists.{all_left, all_right, contains_at}
 use Rattle.statement_set.specs.Problem.{Task, empty_task}
-use Rattle.utopist_parser.specs.declared.tree.Item.{Item}
-use Rattle.utopist_parser.specs.declared.tree.Concept.{Concept}
-use Rattle.utopist_parser.specs.declared.tree.Compute.{Compute}
-use Rattle.utopist_parser.specs.declared.tree.File.{File}
-use Rattle.utopist_parser.specs.Forms.{AllAsk}
+use Rattle.utopist_syntax.specs.declared.compute.Compute.{Compute}
+use Rattle.utopist_syntax.specs.FileTree.{ItemTree, ConceptTree, FileTree}
+use Rattle.utopist_syntax.specs.Asks.{AllAsk}
+use Rattle.concept_unfold.specs.Paths.{given_paths}
 use Rattle.concept_unfold.specs.Declarations.{all_variables, items_of}
 use Rattle.concept_unfold.specs.Rows.{Row, Holds, AllHold}
 use Rattle.concept_unfold.specs.ConceptRules.{items_rows, concept_rows, concepts_rows, compute_rows, computes_rows, concept_rules}
@@ -28,29 +27,29 @@ left_hold xs ys h = all_left (λ (r : Row). Holds r.check) xs ys h
 right_hold : (xs ys : List Row) → AllHold (xs ++ ys) → AllHold ys
 right_hold xs ys h = all_right (λ (r : Row). Holds r.check) xs ys h
 
-its_items : (earlier : List (List ℕ)) (c : Concept) → AllHold (concept_rows earlier c) → AllHold (items_rows [] [] c.items)
+its_items : (earlier : List (List ℕ)) (c : ConceptTree) → AllHold (concept_rows earlier c) → AllHold (items_rows [] [] c.items)
 its_items earlier c h = right_hold (concept_name earlier c) (items_rows [] [] c.items) (right_hold (concept_count earlier c) (concept_name earlier c ++ items_rows [] [] c.items) h)
 
-first_items : (c : Concept) (cs : List Concept) (name : List ℕ) (t : Bool) → bytes_eq c.name.text name ≡ t → AllHold (items_rows [] [] c.items) → AllHold (items_rows [] [] (items_of cs name)) → AllHold (items_rows [] [] (items_of (c ∷ cs) name))
+first_items : (c : ConceptTree) (cs : List ConceptTree) (name : List ℕ) (t : Bool) → bytes_eq c.name.text name ≡ t → AllHold (items_rows [] [] c.items) → AllHold (items_rows [] [] (items_of cs name)) → AllHold (items_rows [] [] (items_of (c ∷ cs) name))
 first_items c cs name true e here rest = rw e here
 first_items c cs name false e here rest = rw e rest
 
 -- the items of each concept follow the rules
-pub items_follow : (earlier : List (List ℕ)) (cs : List Concept) (name : List ℕ) → AllHold (concepts_rows earlier cs) → AllHold (items_rows [] [] (items_of cs name))
+pub items_follow : (earlier : List (List ℕ)) (cs : List ConceptTree) (name : List ℕ) → AllHold (concepts_rows earlier cs) → AllHold (items_rows [] [] (items_of cs name))
 items_follow earlier [] name h = none_hold
 items_follow earlier (c ∷ cs) name h =
     let more = earlier ++ c.name.text ∷ [] in
     first_items c cs name (bytes_eq c.name.text name) refl (its_items earlier c (left_hold (concept_rows earlier c) (concepts_rows more cs) h)) (items_follow more cs name (right_hold (concept_rows earlier c) (concepts_rows more cs) h))
 
 -- each compute statement follows the rules, behind some number of others
-compute_follows : (cs : List Concept) (ws : List Compute) (before k : ℕ) (w : Compute) → slice_get ws k ≡ Some w → AllHold (computes_rows cs before ws) → (n : ℕ) × AllHold (compute_rows cs n w)
+compute_follows : (cs : List ConceptTree) (ws : List Compute) (before k : ℕ) (w : Compute) → slice_get ws k ≡ Some w → AllHold (computes_rows cs before ws) → (n : ℕ) × AllHold (compute_rows cs n w)
 compute_follows cs [] before k w there h = absurd (cc)
 compute_follows cs (x ∷ ws) before zero w there h =
     let same : x ≡ w = cc in
     (before, subst (λ (y : Compute). AllHold (compute_rows cs before y)) same (left_hold (compute_rows cs before x) (computes_rows cs (before + 1) ws) h))
 compute_follows cs (x ∷ ws) before (suc k) w there h = compute_follows cs ws (before + 1) k w there (right_hold (compute_rows cs before x) (computes_rows cs (before + 1) ws) h)
 
-module _ (f : File) (k : ℕ) (w : Compute) (there : slice_get f.computes k ≡ Some w) (h : AllHold (concept_rules f)) where
+module _ (f : FileTree) (k : ℕ) (w : Compute) (there : slice_get f.computes k ≡ Some w) (h : AllHold (concept_rules f)) where
   pub concept_items : AllHold (items_rows [] [] (items_of f.concepts w.name.text))
   concept_items = items_follow [] f.concepts w.name.text (left_hold (concepts_rows [] f.concepts) (computes_rows f.concepts 0 f.computes) h)
 
@@ -60,24 +59,24 @@ module _ (f : File) (k : ℕ) (w : Compute) (there : slice_get f.computes k ≡ 
       right_hold (compute_name f.concepts r.0 w) (given_rows f.concepts 0 w ++ want_rows f.concepts 0 w) (right_hold (compute_count f.concepts r.0 w) (compute_name f.concepts r.0 w ++ (given_rows f.concepts 0 w ++ want_rows f.concepts 0 w)) r.1)
 
   -- what is given and what is wanted are variables of its concept
-  pub givens_known : AreKnown (all_variables (items_of f.concepts w.name.text)) w.givens
-  givens_known = known_from_rows (all_variables (items_of f.concepts w.name.text)) w.givens (left_hold (given_rows f.concepts 0 w) (want_rows f.concepts 0 w) its_names)
+  pub givens_known : AreKnown (all_variables (items_of f.concepts w.name.text)) (given_paths w.givens)
+  givens_known = known_from_rows (all_variables (items_of f.concepts w.name.text)) (given_paths w.givens) (left_hold (given_rows f.concepts 0 w) (want_rows f.concepts 0 w) its_names)
 
   pub wants_known : AreKnown (all_variables (items_of f.concepts w.name.text)) w.wants
   wants_known = known_from_rows (all_variables (items_of f.concepts w.name.text)) w.wants (right_hold (given_rows f.concepts 0 w) (want_rows f.concepts 0 w) its_names)
 
 -- each of them asks for something
-pub it_asks : (f : File) (k : ℕ) (w : Compute) → slice_get f.computes k ≡ Some w → AllAsk f → w.wants ≡ [] → ⊥
+pub it_asks : (f : FileTree) (k : ℕ) (w : Compute) → slice_get f.computes k ≡ Some w → AllAsk f → w.wants ≡ [] → ⊥
 it_asks f k w there h = All-contains (λ (c : Compute). c.wants ≡ [] → ⊥) f.computes w h (contains_at f.computes k w there)
 
 -- the compute statement that was read stands in the file
 pub stands : (read all : List Compute) (i : ℕ) (w : Compute) → read ≡ all → i < length all → w ≡ get_or read i w → slice_get all i ≡ Some w
 stands read all i w same lt is = slice_get_read all (length all) i w refl lt (subst (λ (xs : List Compute). w ≡ get_or xs i w) same is)
 
-pub same_items : (cs read : List Concept) (name text : List ℕ) (items : List Item) → items ≡ items_of read text → read ≡ cs → text ≡ name → items ≡ items_of cs name
-same_items cs read name text items e same is = e ∙ ap (λ (xs : List Concept). items_of xs text) same ∙ ap (items_of cs) is
+pub same_items : (cs read : List ConceptTree) (name text : List ℕ) (items : List ItemTree) → items ≡ items_of read text → read ≡ cs → text ≡ name → items ≡ items_of cs name
+same_items cs read name text items e same is = e ∙ ap (λ (xs : List ConceptTree). items_of xs text) same ∙ ap (items_of cs) is
 
-module _ (w : Compute) (items : List Item) (h : AllHold (limit_rows w items)) where
+module _ (w : Compute) (items : List ItemTree) (h : AllHold (limit_rows w items)) where
   after_paths : AllHold (variable_count w items ++ (size_count w items ++ statement_count w items))
   after_paths = right_hold (path_count w items) (variable_count w items ++ (size_count w items ++ statement_count w items)) h
 
@@ -91,6 +90,6 @@ module _ (w : Compute) (items : List Item) (h : AllHold (limit_rows w items)) wh
       first_holds (limit_row w limit.Statements 4096 (sum_by statements_in items)) [] (right_hold (size_count w items) (statement_count w items) after)
 
 -- the problem with its items, and then with its goal, is that of the items and the compute statement
-pub problem_is : (w : Compute) (items : List Item) (p q : Task) → p ≡ record empty_task { names = all_variables items; statements = flat_map (statements_of (all_variables items)) items } → q ≡ record p { givens = map given_of (map (number p.names) w.givens); wants = map (number p.names) w.wants } → q ≡ problem_from items w
+pub problem_is : (w : Compute) (items : List ItemTree) (p q : Task) → p ≡ record empty_task { names = all_variables items; statements = flat_map (statements_of (all_variables items)) items } → q ≡ record p { givens = map (given_of p.names) w.givens; wants = map (number p.names) w.wants } → q ≡ problem_from items w
 problem_is w items p q same e =
-    e ∙ ap (λ (r : Task). record r { givens = map given_of (map (number r.names) w.givens); wants = map (number r.names) w.wants }) same
+    e ∙ ap (λ (r : Task). record r { givens = map (given_of r.names) w.givens; wants = map (number r.names) w.wants }) same

@@ -5,7 +5,7 @@ use Rattle.std.specs.List.{AllPairs, position_or_len}
 use Rattle.std.specs.Str.{bytes_eq}
 use Rattle.std.proofs.lemmas.Option.{slice_get_read}
 use Rattle.std.proofs.lemmas.Slice.Eq.{bytes_eq-Decides}
-use Rattle.utopist_parser.specs.declared.tree.Concept.{Concept}
+use Rattle.utopist_syntax.specs.FileTree.{ConceptTree}
 use Rattle.priz_base.proofs.More.{some_below}
 use Rattle.concept_unfold.specs.Declarations.{Outline, all_variables, items_of, concept_names, outline_of, variables_named}
 use Rattle.concept_unfold.proofs.Places.{place_at, first_is, first_is_not, false_of}
@@ -22,19 +22,19 @@ same_test : (a b : List ℕ) (t : Bool) → bytes_eq a b ≡ t → bytes_eq b a 
 same_test a b true e = (bytes_eq-Decides b a).1 (sym ((bytes_eq-Decides a b).0 e))
 same_test a b false e = false_of (bytes_eq b a) (λ t. let s = (bytes_eq-Decides a b).1 (sym ((bytes_eq-Decides b a).0 t)) in absurd (cc))
 
-cons_named : (c : Concept) (cs : List Concept) (name : List ℕ) (t : Bool) → bytes_eq c.name.text name ≡ t → variables_named (outline_of cs) name ≡ all_variables (items_of cs name) → variables_named (outline_of (c ∷ cs)) name ≡ all_variables (items_of (c ∷ cs) name)
+cons_named : (c : ConceptTree) (cs : List ConceptTree) (name : List ℕ) (t : Bool) → bytes_eq c.name.text name ≡ t → variables_named (outline_of cs) name ≡ all_variables (items_of cs name) → variables_named (outline_of (c ∷ cs)) name ≡ all_variables (items_of (c ∷ cs) name)
 cons_named c cs name true e rest = rw (e, first_is c.name.text (concept_names cs) name (same_test c.name.text name true e)) refl
 cons_named c cs name false e rest =
     let place = first_is_not c.name.text (concept_names cs) name (same_test c.name.text name false e) in
     rw (e, place, add_comm 1 (position_or_len (bytes_eq name) (concept_names cs)), add-one) rest
 
 -- where concepts have this outline, those are the variables of the first concept of that name
-pub outline_named : (cs : List Concept) (name : List ℕ) → variables_named (outline_of cs) name ≡ all_variables (items_of cs name)
+pub outline_named : (cs : List ConceptTree) (name : List ℕ) → variables_named (outline_of cs) name ≡ all_variables (items_of cs name)
 outline_named [] name = refl
 outline_named (c ∷ cs) name = cons_named c cs name (bytes_eq c.name.text name) refl (outline_named cs name)
 
 -- the outline was asked with this text, which is the name
-module _ (cs : List Concept) (o : Outline) (name text : List ℕ) (same : o ≡ outline_of cs) (is : text ≡ name) where
+module _ (cs : List ConceptTree) (o : Outline) (name text : List ℕ) (same : o ≡ outline_of cs) (is : text ≡ name) where
   pub concept_found : Contains o.names text → Contains (concept_names cs) name
   concept_found h = subst (Contains (concept_names cs)) is (subst (λ (p : Outline). Contains p.names text) same h)
 

@@ -1,20 +1,25 @@
 -- Items that are added to a problem one after another.
-use Rattle.std.proofs.Common.{◌≡◌, ℕ, ◌+◌, ◌<◌, ◌≤◌, List, [], ◌∷◌, ◌++◌, length, get_or, drop, map, refl, sym, ap, ◌∙◌, subst, arith, append_assoc, length-append}
+use Rattle.std.proofs.Common.{◌≡◌, ℕ, zero, suc, ◌+◌, ◌<◌, ◌≤◌, List, [], ◌∷◌, ◌++◌, length, get_or, drop, map, Option, refl, sym, ap, ◌∙◌, subst, arith, append_assoc, length-append}
 use Rattle.std.specs.Prelude.{Contains, All}
 use Rattle.std.specs.List.{flat_map, sum_by}
 use Rattle.std.proofs.lemmas.List.Elements.{All-contains, All-append, All-weaker, All-contains_itself, All-nil, Contains-append_left, Contains-append_right}
 use Rattle.std.proofs.lemmas.List.Sums.{sum_by-drop_more}
+use Rattle.std.proofs.lemmas.List.Folds.{fold-map}
 use Rattle.priz_base.proofs.More.{drop_at}
 use Rattle.statement_set.specs.declared.statement.Statement.{Statement}
 use Rattle.statement_set.specs.Problem.{Task}
 use Rattle.statement_set.proofs.Lists.{all_left, all_right, all_of_map}
 use Rattle.utopist_syntax.specs.Named.{Named}
-use Rattle.utopist_parser.specs.declared.tree.Item.{Item}
-use Rattle.utopist_parser.specs.declared.tree.Item.TheVariants as item
+use Rattle.utopist_syntax.specs.Tree.{Tree}
+use Rattle.utopist_syntax.specs.declared.path.Path.{Path}
+use Rattle.utopist_syntax.specs.declared.item.Part.{Part}
+use Rattle.utopist_syntax.specs.declared.item.Item.{Item}
+use Rattle.utopist_syntax.specs.FileTree.{ItemTree, var, eq, rel, item_tree}
 use Rattle.concept_unfold.specs.declared.fault.Rule.{Rule}
 use Rattle.concept_unfold.specs.declared.fault.Rule.TheVariants as rule
+use Rattle.concept_unfold.specs.Paths.{first_name, input_in, inputs_of, IsOneOf}
 use Rattle.concept_unfold.specs.Declarations.{texts, declared, variables, all_variables}
-use Rattle.concept_unfold.specs.Rows.{is_new, is_known, Row, Holds, AllHold}
+use Rattle.concept_unfold.specs.Rows.{is_new, is_path, Row, Holds, AllHold}
 use Rattle.concept_unfold.specs.ConceptRules.{at_name, once_rows, known_rows, item_rows, items_rows}
 use Rattle.concept_unfold.specs.UnfoldingRules.{statements_in}
 use Rattle.concept_unfold.specs.Unfolded.{number, statements_of, AreKnown}
@@ -32,86 +37,106 @@ once_behind_fewer r xs ys (n ∷ ns) sub h =
     (once_behind_fewer r (xs ++ n.text ∷ []) (ys ++ n.text ∷ []) ns (among_both xs ys n.text sub) (rest_holds (at_name n r (is_new ys n.text)) (once_rows r (ys ++ n.text ∷ []) ns) h))
 
 -- an item follows the rules behind fewer names too
-pub item_behind_fewer : (names fewer vars : List (List ℕ)) (i : Item) → All (Contains names) fewer → AllHold (item_rows names vars i) → AllHold (item_rows fewer vars i)
-item_behind_fewer names fewer vars (item.Var ns) sub h = once_behind_fewer rule.DuplicateName fewer names ns sub h
-item_behind_fewer names fewer vars (item.Rel n inputs output) sub h =
-    let rest = known_rows vars inputs ++ known_rows vars (output ∷ []) in
+pub item_behind_fewer : (names fewer vars : List (List ℕ)) (i : ItemTree) → All (Contains names) fewer → AllHold (item_rows names vars i) → AllHold (item_rows fewer vars i)
+item_behind_fewer names fewer vars (var ns kind binds) sub h = once_behind_fewer rule.DuplicateName fewer names ns sub h
+item_behind_fewer names fewer vars (eq left right) sub h = none_hold
+item_behind_fewer names fewer vars (rel n parts output body) sub h =
+    let rest = known_rows vars (inputs_of parts) ++ known_rows vars (output ∷ []) in
     let row = at_name n rule.DuplicateName (is_new names n.text) in
     let fresh = first_holds row rest h in
     both_hold (at_name n rule.DuplicateName (is_new fewer n.text) ∷ []) rest
     (one_holds (at_name n rule.DuplicateName (is_new fewer n.text)) (λ c. fresh (All-contains (Contains names) fewer n.text sub c))) (rest_holds row rest h)
 
--- known names, as rules have them
-pub known_from_rows : (vars : List (List ℕ)) (ns : List Named) → AllHold (known_rows vars ns) → AreKnown vars ns
-known_from_rows vars ns h = all_of_map (λ (r : Row). Holds r.check) (λ (n : Named). at_name n rule.UnknownPath (is_known vars n.text)) ns h
+-- known paths, as rules have them
+pub known_from_rows : (vars : List (List ℕ)) (ps : List Path) → AllHold (known_rows vars ps) → AreKnown vars ps
+known_from_rows vars ps h = all_of_map (λ (r : Row). Holds r.check) (λ (p : Path). at_name (first_name p) rule.UnknownPath (is_path vars p)) ps h
 
-module _ (names vars : List (List ℕ)) (i : Item) (n : Named) (inputs : List Named) (output : Named) (shape : i ≡ item.Rel n inputs output) (h : AllHold (item_rows names vars i)) where
-  its_rows : AllHold (known_rows vars inputs ++ known_rows vars (output ∷ []))
-  its_rows = rest_holds (at_name n rule.DuplicateName (is_new names n.text)) (known_rows vars inputs ++ known_rows vars (output ∷ [])) (subst (λ (x : Item). AllHold (item_rows names vars x)) shape h)
+-- a part of known inputs has known inputs
+pub inputs_known_at : (vars : List (List ℕ)) (parts : List Part) (i : ℕ) (x : Part) → i < length parts → x ≡ get_or parts i x → AreKnown vars (inputs_of parts) → AreKnown vars (input_in x)
+inputs_known_at vars [] i x lt is k = absurd (omega arith)
+inputs_known_at vars (y ∷ parts) zero x lt is k =
+    subst (λ (z : Part). AreKnown vars (input_in z)) (sym is) (all_left (IsOneOf vars) (input_in y) (inputs_of parts) k)
+inputs_known_at vars (y ∷ parts) (suc i) x lt is k = inputs_known_at vars parts i x (omega arith) is (all_right (IsOneOf vars) (input_in y) (inputs_of parts) k)
+
+module _ (names vars : List (List ℕ)) (i : ItemTree) (n : Named) (parts : List Part) (output : Path) (body : Option Tree) (shape : i ≡ rel n parts output body) (h : AllHold (item_rows names vars i)) where
+  its_rows : AllHold (known_rows vars (inputs_of parts) ++ known_rows vars (output ∷ []))
+  its_rows = rest_holds (at_name n rule.DuplicateName (is_new names n.text)) (known_rows vars (inputs_of parts) ++ known_rows vars (output ∷ [])) (subst (λ (x : ItemTree). AllHold (item_rows names vars x)) shape h)
 
   -- the inputs of a relation are variables
-  pub inputs_known : AreKnown vars inputs
-  inputs_known = known_from_rows vars inputs (all_left (λ (r : Row). Holds r.check) (known_rows vars inputs) (known_rows vars (output ∷ [])) its_rows)
+  pub inputs_known : AreKnown vars (inputs_of parts)
+  inputs_known = known_from_rows vars (inputs_of parts) (all_left (λ (r : Row). Holds r.check) (known_rows vars (inputs_of parts)) (known_rows vars (output ∷ [])) its_rows)
 
   -- and so is its output
-  pub output_known : Contains vars output.text
+  pub output_known : IsOneOf vars output
   output_known =
-      first_holds (at_name output rule.UnknownPath (is_known vars output.text)) []
-      (all_right (λ (r : Row). Holds r.check) (known_rows vars inputs) (known_rows vars (output ∷ [])) its_rows)
+      first_holds (at_name (first_name output) rule.UnknownPath (is_path vars output)) []
+      (all_right (λ (r : Row). Holds r.check) (known_rows vars (inputs_of parts)) (known_rows vars (output ∷ [])) its_rows)
 
-among_declared : (names vars : List (List ℕ)) (i : Item) → All (Contains names) vars → All (Contains (names ++ declared i)) (vars ++ variables i)
-among_declared names vars (item.Var ns) sub =
+among_declared : (names vars : List (List ℕ)) (i : ItemTree) → All (Contains names) vars → All (Contains (names ++ declared i)) (vars ++ variables i)
+among_declared names vars (var ns kind binds) sub =
     All-append (Contains (names ++ texts ns)) vars (texts ns)
     (All-weaker (Contains names) (Contains (names ++ texts ns)) (λ x c. Contains-append_left names (texts ns) x c) vars sub)
     (All-weaker (Contains (texts ns)) (Contains (names ++ texts ns)) (λ x c. Contains-append_right names (texts ns) x c) (texts ns) (All-contains_itself (texts ns)))
-among_declared names vars (item.Rel n inputs output) sub =
+among_declared names vars (eq left right) sub = All-append (Contains (names ++ [])) vars [] (All-weaker (Contains names) (Contains (names ++ [])) (λ x c. Contains-append_left names [] x c) vars sub) (All-nil (Contains (names ++ [])))
+among_declared names vars (rel n parts output body) sub =
     All-append (Contains (names ++ n.text ∷ [])) vars []
     (All-weaker (Contains names) (Contains (names ++ n.text ∷ [])) (λ x c. Contains-append_left names (n.text ∷ []) x c) vars sub)
     (All-nil (Contains (names ++ n.text ∷ [])))
 
-statements_stable : (names vars more : List (List ℕ)) (i : Item) → AllHold (item_rows names vars i) → statements_of (vars ++ more) i ≡ statements_of vars i
-statements_stable names vars more (item.Var ns) h = refl
-statements_stable names vars more (item.Rel n inputs output) h =
+statements_stable : (names vars more : List (List ℕ)) (i : ItemTree) → AllHold (item_rows names vars i) → statements_of (vars ++ more) i ≡ statements_of vars i
+statements_stable names vars more (var ns kind binds) h = refl
+statements_stable names vars more (eq left right) h = refl
+statements_stable names vars more (rel n parts output body) h =
     let statement : List ℕ → ℕ → List Statement = λ ins out. record { inputs = ins; subs = []; output = out } ∷ [] in
-    let known = inputs_known names vars (item.Rel n inputs output) n inputs output refl h in
-    let out = output_known names vars (item.Rel n inputs output) n inputs output refl h in
-    ap (λ ins. statement ins (number (vars ++ more) output)) (numbers_stable vars more inputs known)
-    ∙ ap (λ out. statement (map (number vars) inputs) out) (number_stable vars more output out)
+    let known = inputs_known names vars (rel n parts output body) n parts output body refl h in
+    let out = output_known names vars (rel n parts output body) n parts output body refl h in
+    ap (λ ins. statement ins (number (vars ++ more) output)) (numbers_stable vars more (inputs_of parts) known)
+    ∙ ap (λ out. statement (map (number vars) (inputs_of parts)) out) (number_stable vars more output out)
 
-statement_count : (vars : List (List ℕ)) (i : Item) → length (statements_of vars i) ≡ statements_in i
-statement_count vars (item.Var ns) = refl
-statement_count vars (item.Rel n inputs output) = refl
+statement_count : (vars : List (List ℕ)) (i : ItemTree) → length (statements_of vars i) ≡ statements_in i
+statement_count vars (var ns kind binds) = refl
+statement_count vars (eq left right) = refl
+statement_count vars (rel n parts output body) = refl
 
 module _ (items : List Item) (i : ℕ) (x : Item) (lt : i < length items) (is : x ≡ get_or items i x) where
-  pub here_follows : (names vars : List (List ℕ)) → AllHold (items_rows names vars (drop i items)) → AllHold (item_rows names vars x)
+  pub here_follows : (names vars : List (List ℕ)) → AllHold (items_rows names vars (map item_tree (drop i items))) → AllHold (item_rows names vars (item_tree x))
   here_follows names vars h =
-      all_left (λ (r : Row). Holds r.check) (item_rows names vars x) (items_rows (names ++ declared x) (vars ++ variables x) (drop (i + 1) items))
-      (subst (λ (y : List Item). AllHold (items_rows names vars y)) (drop_at items i x lt is) h)
+      all_left (λ (r : Row). Holds r.check) (item_rows names vars (item_tree x)) (items_rows (names ++ declared (item_tree x)) (vars ++ variables (item_tree x)) (map item_tree (drop (i + 1) items)))
+      (subst (λ (y : List Item). AllHold (items_rows names vars (map item_tree y))) (drop_at items i x lt is) h)
 
-  pub follows_more : (names vars new : List (List ℕ)) → All (Contains names) vars → AllHold (items_rows names vars (drop i items)) → new ≡ vars ++ variables x → (more : List (List ℕ)) × All (Contains more) new × AllHold (items_rows more new (drop (i + 1) items))
+  pub follows_more : (names vars new : List (List ℕ)) → All (Contains names) vars → AllHold (items_rows names vars (map item_tree (drop i items))) → new ≡ vars ++ variables (item_tree x) → (more : List (List ℕ)) × All (Contains more) new × AllHold (items_rows more new (map item_tree (drop (i + 1) items)))
   follows_more names vars new sub h e =
       let rest =
-      all_right (λ (r : Row). Holds r.check) (item_rows names vars x) (items_rows (names ++ declared x) (vars ++ variables x) (drop (i + 1) items))
-      (subst (λ (y : List Item). AllHold (items_rows names vars y)) (drop_at items i x lt is) h) in
-      (names ++ declared x, subst (λ (v : List (List ℕ)). All (Contains (names ++ declared x)) v) (sym e) (among_declared names vars x sub), subst (λ (v : List (List ℕ)). AllHold (items_rows (names ++ declared x) v (drop (i + 1) items))) (sym e) rest)
+      all_right (λ (r : Row). Holds r.check) (item_rows names vars (item_tree x)) (items_rows (names ++ declared (item_tree x)) (vars ++ variables (item_tree x)) (map item_tree (drop (i + 1) items)))
+      (subst (λ (y : List Item). AllHold (items_rows names vars (map item_tree y))) (drop_at items i x lt is) h) in
+      (names ++ declared (item_tree x), subst (λ (v : List (List ℕ)). All (Contains (names ++ declared (item_tree x))) v) (sym e) (among_declared names vars (item_tree x) sub), subst (λ (v : List (List ℕ)). AllHold (items_rows (names ++ declared (item_tree x)) v (map item_tree (drop (i + 1) items)))) (sym e) rest)
 
-  pub variables_more : (vars new all : List (List ℕ)) → vars ++ all_variables (drop i items) ≡ all → new ≡ vars ++ variables x → new ++ all_variables (drop (i + 1) items) ≡ all
+  pub variables_more : (vars new all : List (List ℕ)) → vars ++ all_variables (map item_tree (drop i items)) ≡ all → new ≡ vars ++ variables (item_tree x) → new ++ all_variables (map item_tree (drop (i + 1) items)) ≡ all
   variables_more vars new all h e =
-      ap (λ v. v ++ all_variables (drop (i + 1) items)) e ∙ append_assoc vars (variables x) (all_variables (drop (i + 1) items))
-      ∙ sym (ap (λ (y : List Item). vars ++ all_variables y) (drop_at items i x lt is)) ∙ h
+      ap (λ v. v ++ all_variables (map item_tree (drop (i + 1) items))) e ∙ append_assoc vars (variables (item_tree x)) (all_variables (map item_tree (drop (i + 1) items)))
+      ∙ sym (ap (λ (y : List Item). vars ++ all_variables (map item_tree y)) (drop_at items i x lt is)) ∙ h
 
-  pub statements_more : (names vars all : List (List ℕ)) (old new whole : List Statement) → vars ++ all_variables (drop i items) ≡ all → AllHold (item_rows names vars x) → old ++ flat_map (statements_of all) (drop i items) ≡ whole → new ≡ old ++ statements_of vars x → new ++ flat_map (statements_of all) (drop (i + 1) items) ≡ whole
+  pub statements_more : (names vars all : List (List ℕ)) (old new whole : List Statement) → vars ++ all_variables (map item_tree (drop i items)) ≡ all → AllHold (item_rows names vars (item_tree x)) → old ++ flat_map (statements_of all) (map item_tree (drop i items)) ≡ whole → new ≡ old ++ statements_of vars (item_tree x) → new ++ flat_map (statements_of all) (map item_tree (drop (i + 1) items)) ≡ whole
   statements_more names vars all old new whole split known h e =
-      let same : statements_of all x ≡ statements_of vars x = subst (λ (v : List (List ℕ)). statements_of v x ≡ statements_of vars x) split (statements_stable names vars (all_variables (drop i items)) x known) in
-      ap (λ v. v ++ flat_map (statements_of all) (drop (i + 1) items)) (e ∙ ap (λ ss. old ++ ss) (sym same))
-      ∙ append_assoc old (statements_of all x) (flat_map (statements_of all) (drop (i + 1) items))
-      ∙ sym (ap (λ (y : List Item). old ++ flat_map (statements_of all) y) (drop_at items i x lt is)) ∙ h
+      let same : statements_of all (item_tree x) ≡ statements_of vars (item_tree x) = subst (λ (v : List (List ℕ)). statements_of v (item_tree x) ≡ statements_of vars (item_tree x)) split (statements_stable names vars (all_variables (map item_tree (drop i items))) (item_tree x) known) in
+      ap (λ v. v ++ flat_map (statements_of all) (map item_tree (drop (i + 1) items))) (e ∙ ap (λ ss. old ++ ss) (sym same))
+      ∙ append_assoc old (statements_of all (item_tree x)) (flat_map (statements_of all) (map item_tree (drop (i + 1) items)))
+      ∙ sym (ap (λ (y : List Item). old ++ flat_map (statements_of all) (map item_tree y)) (drop_at items i x lt is)) ∙ h
 
-  pub room_more : (vars : List (List ℕ)) (old new : List Statement) → length old + sum_by statements_in (drop i items) ≤ 4096 → new ≡ old ++ statements_of vars x → length new + sum_by statements_in (drop (i + 1) items) ≤ 4096
+  pub room_more : (vars : List (List ℕ)) (old new : List Statement) → length old + sum_by statements_in (map item_tree (drop i items)) ≤ 4096 → new ≡ old ++ statements_of vars (item_tree x) → length new + sum_by statements_in (map item_tree (drop (i + 1) items)) ≤ 4096
   room_more vars old new h e =
-      let rest = sum_by-drop_more statements_in items i x lt in
-      let here : statements_in (get_or items i x) ≡ statements_in x = ap statements_in (sym is) in
-      omega (arith, ap length e, length-append old (statements_of vars x), statement_count vars x, rest, here)
+      let f : Item → ℕ = λ y. statements_in (item_tree y) in
+      let here : f (get_or items i x) ≡ f x = ap f (sym is) in
+      omega (
+        arith,
+        ap length e,
+        length-append old (statements_of vars (item_tree x)),
+        statement_count vars (item_tree x),
+        sum_by-drop_more f items i x lt,
+        fold-map (λ a y. a + statements_in y) item_tree 0 (drop i items),
+        fold-map (λ a y. a + statements_in y) item_tree 0 (drop (i + 1) items),
+        here,
+      )
 
 -- the next name of an item is new, and so are those behind it
 pub once_here : (r : Rule) (names : List (List ℕ)) (ns : List Named) (i : ℕ) (n : Named) → i < length ns → n ≡ get_or ns i n → AllHold (once_rows r names (drop i ns)) → AllHold (at_name n r (is_new names n.text) ∷ once_rows r (names ++ n.text ∷ []) (drop (i + 1) ns))

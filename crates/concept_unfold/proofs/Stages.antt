@@ -1,18 +1,18 @@
 -- How far the rules of a concept, and of a compute statement, were checked.
 use Rattle.std.proofs.Common.{ℕ, ◌+◌, List, [], ◌∷◌, ◌++◌, length}
 use Rattle.std.specs.List.{sum_by}
-use Rattle.utopist_parser.specs.declared.tree.Item.{Item}
-use Rattle.utopist_parser.specs.declared.tree.Concept.{Concept}
-use Rattle.utopist_parser.specs.declared.tree.Compute.{Compute}
+use Rattle.utopist_syntax.specs.declared.compute.Compute.{Compute}
+use Rattle.utopist_syntax.specs.FileTree.{ItemTree, ConceptTree}
 use Rattle.concept_unfold.specs.declared.fault.Rule.TheVariants as rule
 use Rattle.concept_unfold.specs.declared.fault.Limit.TheVariants as limit
+use Rattle.concept_unfold.specs.Paths.{given_paths}
 use Rattle.concept_unfold.specs.Declarations.{all_variables, items_of, concept_names}
 use Rattle.concept_unfold.specs.Rows.{at_most, is_new, is_known, Row, AllHold}
 use Rattle.concept_unfold.specs.ConceptRules.{at_name, known_rows, items_rows, concept_rows, compute_rows}
 use Rattle.concept_unfold.specs.UnfoldingRules.{size_of, statements_in, limit_row, limit_rows}
 use Rattle.concept_unfold.proofs.Passing.{Passed, all_left, passed_more}
 
-module _ (earlier : List (List ℕ)) (c : Concept) where
+module _ (earlier : List (List ℕ)) (c : ConceptTree) where
   abbrev pub concept_count : List Row
   concept_count = at_name c.name (rule.TooMany limit.Concepts) (at_most 1024 (length earlier + 1)) ∷ []
 
@@ -28,7 +28,7 @@ module _ (earlier : List (List ℕ)) (c : Concept) where
   pub at_items : AllHold concept_count → AllHold concept_name → Passed (concept_rows earlier c) (items_rows [] [] c.items)
   at_items h g = passed_more (concept_rows earlier c) concept_name (items_rows [] [] c.items) (at_concept_name h) g
 
-module _ (cs : List Concept) (before : ℕ) (c : Compute) where
+module _ (cs : List ConceptTree) (before : ℕ) (c : Compute) where
   abbrev pub compute_count : List Row
   compute_count = at_name c.name (rule.TooMany limit.Computes) (at_most 64 (before + 1)) ∷ []
 
@@ -36,7 +36,7 @@ module _ (cs : List Concept) (before : ℕ) (c : Compute) where
   compute_name = at_name c.name rule.UnknownConcept (is_known (concept_names cs) c.name.text) ∷ []
 
   abbrev pub given_rows : List Row
-  given_rows = known_rows (all_variables (items_of cs c.name.text)) c.givens
+  given_rows = known_rows (all_variables (items_of cs c.name.text)) (given_paths c.givens)
 
   abbrev pub want_rows : List Row
   want_rows = known_rows (all_variables (items_of cs c.name.text)) c.wants
@@ -53,7 +53,7 @@ module _ (cs : List Concept) (before : ℕ) (c : Compute) where
   pub at_wants : AllHold compute_count → AllHold compute_name → AllHold given_rows → Passed (compute_rows cs before c) want_rows
   at_wants h g i = passed_more (compute_rows cs before c) given_rows want_rows (at_givens h g) i
 
-module _ (c : Compute) (items : List Item) where
+module _ (c : Compute) (items : List ItemTree) where
   abbrev pub path_count : List Row
   path_count = limit_row c limit.Paths 8192 (length (all_variables items)) ∷ []
 

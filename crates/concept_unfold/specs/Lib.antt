@@ -1,3 +1,5 @@
+pub mod Built
+pub mod Paths
 pub mod Declarations
 pub mod Rows
 pub mod ConceptRules

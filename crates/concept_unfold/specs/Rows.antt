@@ -1,22 +1,27 @@
 -- Rules, each at the place where it is checked, and the first that fails.
 use Rattle.std.specs.Prelude.{◌≡◌, ◌≤◌, ℕ, List, ◌∷◌, ◌++◌, All, Contains, Result, Ok, Err}
 use Rattle.priz_base.specs.declared.place.Place.{Place}
+use Rattle.utopist_syntax.specs.declared.path.Path.{Path}
 use Rattle.concept_unfold.specs.declared.fault.Rule.{Rule}
 use Rattle.concept_unfold.specs.declared.fault.ModelFault.{ModelFault}
 use Rattle.concept_unfold.specs.declared.fault.UnfoldFault.{UnfoldFault}
 use Rattle.concept_unfold.specs.declared.fault.UnfoldFault.TheVariants as fault
+use Rattle.concept_unfold.specs.Paths.{IsOneOf}
 
--- what a rule asks for: no more than the limit; a name that is none of these; a name that is one of these
+-- what a rule asks for: no more than the limit; a name that is none of these; a name that is one of these; a path of one name,
+-- which is one of these
 pub data Check : Type 0 where
   at_most : ℕ → ℕ → Check
   is_new : List (List ℕ) → List ℕ → Check
   is_known : List (List ℕ) → List ℕ → Check
+  is_path : List (List ℕ) → Path → Check
 
 -- it is so
 abbrev pub Holds : Check → Type 0
 Holds (at_most limit n) = n ≤ limit
 Holds (is_new names name) = ¬ Contains names name
 Holds (is_known names name) = Contains names name
+Holds (is_path names p) = IsOneOf names p
 
 -- a rule, and where it is checked
 pub record Row : Type 0 where

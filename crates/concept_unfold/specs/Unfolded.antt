@@ -1,47 +1,48 @@
 -- The problem of a file.
-use Rattle.std.specs.Prelude.{ℕ, List, [], ◌∷◌, map, All, Contains}
+use Rattle.std.specs.Prelude.{ℕ, List, [], ◌∷◌, map, All}
 use Rattle.std.specs.List.{flat_map, position_or_len}
 use Rattle.std.specs.Str.{bytes_eq}
 use Rattle.statement_set.specs.declared.statement.Statement.{Statement}
 use Rattle.statement_set.specs.declared.given.Given.{Given}
 use Rattle.statement_set.specs.Problem.{Task}
-use Rattle.utopist_syntax.specs.Named.{Named}
-use Rattle.utopist_parser.specs.declared.tree.Item.{Item}
-use Rattle.utopist_parser.specs.declared.tree.Item.TheVariants as item
-use Rattle.utopist_parser.specs.declared.tree.Compute.{Compute}
-use Rattle.utopist_parser.specs.declared.tree.File.{File}
+use Rattle.utopist_syntax.specs.declared.path.Path.{Path}
+use Rattle.utopist_syntax.specs.declared.compute.Compute.{Compute}
+use Rattle.utopist_syntax.specs.declared.compute.GivenPath.{GivenPath}
+use Rattle.utopist_syntax.specs.FileTree.{ItemTree, var, eq, rel, FileTree}
+use Rattle.concept_unfold.specs.Paths.{first_name, IsOneOf, inputs_of}
 use Rattle.concept_unfold.specs.Declarations.{all_variables, items_of}
 
--- the number of a variable is its place among the variables
-abbrev pub number : List (List ℕ) → Named → ℕ
-number vars n = position_or_len (bytes_eq n.text) vars
+-- the number of a variable is the place of its name among the variables
+abbrev pub number : List (List ℕ) → Path → ℕ
+number vars p = position_or_len (bytes_eq (first_name p).text) vars
 
--- each name is that of a variable
-abbrev pub AreKnown : List (List ℕ) → List Named → Type 0
-AreKnown vars names = All (λ n. Contains vars n.text) names
+-- each path is a variable
+abbrev pub AreKnown : List (List ℕ) → List Path → Type 0
+AreKnown vars paths = All (IsOneOf vars) paths
 
 -- the statement of a relation
-abbrev pub plain_statement : List (List ℕ) → List Named → Named → Statement
+abbrev pub plain_statement : List (List ℕ) → List Path → Path → Statement
 plain_statement vars inputs output = record { inputs = map (number vars) inputs; subs = []; output = number vars output }
 
--- the statements that an item gives
-abbrev pub statements_of : List (List ℕ) → Item → List Statement
-statements_of vars (item.Var names) = []
-statements_of vars (item.Rel name inputs output) = plain_statement vars inputs output ∷ []
+-- the statements that an item gives, of the forms that are built
+abbrev pub statements_of : List (List ℕ) → ItemTree → List Statement
+statements_of vars (var names kind binds) = []
+statements_of vars (eq left right) = []
+statements_of vars (rel name parts output body) = plain_statement vars (inputs_of parts) output ∷ []
 
--- what is given, without a number
-abbrev pub given_of : ℕ → Given
-given_of v = record { var = v }
+-- what is given, without a value
+abbrev pub given_of : List (List ℕ) → GivenPath → Given
+given_of vars g = record { var = number vars g.path }
 
 -- the problem of these items and a compute statement: variables, statements, what is given and what is wanted, each in the order of the text
-abbrev pub problem_from : List Item → Compute → Task
+abbrev pub problem_from : List ItemTree → Compute → Task
 problem_from items c = record {
   names = all_variables items;
   statements = flat_map (statements_of (all_variables items)) items;
-  givens = map given_of (map (number (all_variables items)) c.givens);
+  givens = map (given_of (all_variables items)) c.givens;
   wants = map (number (all_variables items)) c.wants;
 }
 
 -- the problem of a compute statement of a file
-abbrev pub problem_of : File → Compute → Task
+abbrev pub problem_of : FileTree → Compute → Task
 problem_of f c = problem_from (items_of f.concepts c.name.text) c

@@ -1,41 +1,42 @@
 -- The rules of unfolding: the limits of a problem, and no variable given twice.
 use Rattle.std.specs.Prelude.{ℕ, ◌+◌, List, [], ◌∷◌, ◌++◌, length}
 use Rattle.std.specs.List.{sum_by, flat_map}
-use Rattle.utopist_parser.specs.declared.tree.Item.{Item}
-use Rattle.utopist_parser.specs.declared.tree.Item.TheVariants as item
-use Rattle.utopist_parser.specs.declared.tree.Compute.{Compute}
-use Rattle.utopist_parser.specs.declared.tree.File.{File}
+use Rattle.utopist_syntax.specs.declared.compute.Compute.{Compute}
+use Rattle.utopist_syntax.specs.FileTree.{ItemTree, var, eq, rel, FileTree}
 use Rattle.concept_unfold.specs.declared.fault.Rule.TheVariants as rule
 use Rattle.concept_unfold.specs.declared.fault.Limit.{Limit}
 use Rattle.concept_unfold.specs.declared.fault.Limit.TheVariants as limit
+use Rattle.concept_unfold.specs.Paths.{inputs_of, given_names}
 use Rattle.concept_unfold.specs.Declarations.{all_variables, items_of}
 use Rattle.concept_unfold.specs.Rows.{at_most, Row}
 use Rattle.concept_unfold.specs.ConceptRules.{at_name, once_rows, concept_rules}
 
--- how much an item adds to the size of a problem
-abbrev pub size_of : Item → ℕ
-size_of (item.Var names) = 0
-size_of (item.Rel name inputs output) = 1 + length inputs
+-- how much an item adds to the size of a problem, of the forms that are built
+abbrev pub size_of : ItemTree → ℕ
+size_of (var names kind binds) = 0
+size_of (eq left right) = 0
+size_of (rel name parts output body) = 1 + length (inputs_of parts)
 
--- how many statements an item gives
-abbrev pub statements_in : Item → ℕ
-statements_in (item.Var names) = 0
-statements_in (item.Rel name inputs output) = 1
+-- how many statements an item gives, of these forms
+abbrev pub statements_in : ItemTree → ℕ
+statements_in (var names kind binds) = 0
+statements_in (eq left right) = 0
+statements_in (rel name parts output body) = 1
 
 -- a limit on the problem of a compute statement, checked at its name
 abbrev pub limit_row : Compute → Limit → ℕ → ℕ → Row
 limit_row c l most n = at_name c.name (rule.TooMany l) (at_most most n)
 
 -- the limits of a problem of these items; each declared path is a variable
-abbrev pub limit_rows : Compute → List Item → List Row
+abbrev pub limit_rows : Compute → List ItemTree → List Row
 limit_rows c items =
     limit_row c limit.Paths 8192 (length (all_variables items)) ∷ limit_row c limit.Variables 1024 (length (all_variables items))
     ∷ limit_row c limit.Size 262144 (sum_by size_of items) ∷ limit_row c limit.Statements 4096 (sum_by statements_in items) ∷ []
 
 -- the rules of unfolding of a compute statement
-abbrev pub unfolding_rules : File → Compute → List Row
-unfolding_rules f c = limit_rows c (items_of f.concepts c.name.text) ++ once_rows rule.DuplicateInput [] c.givens
+abbrev pub unfolding_rules : FileTree → Compute → List Row
+unfolding_rules f c = limit_rows c (items_of f.concepts c.name.text) ++ once_rows rule.DuplicateInput [] (given_names c.givens)
 
 -- all rules of a file, in the order in which they are reported
-abbrev pub rules_of : File → List Row
+abbrev pub rules_of : FileTree → List Row
 rules_of f = concept_rules f ++ flat_map (unfolding_rules f) f.computes

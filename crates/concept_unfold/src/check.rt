@@ -1,17 +1,21 @@
-ghost use Rattle.std.specs.Prelude.{◌≡◌, ◌<◌, ◌∷◌, [], ◌++◌, length, slice_get, Some, OnOk, IfOk};
-ghost use Rattle.utopist_parser.specs.declared.tree.Compute.{Compute};
+ghost use Rattle.std.specs.Prelude.{◌≡◌, ◌<◌, ◌∷◌, [], ◌++◌, length, map, slice_get, Some, OnOk, IfOk};
+ghost use Rattle.utopist_syntax.specs.declared.compute.Compute.{Compute};
+ghost use Rattle.utopist_syntax.specs.FileTree.{item_tree, concept_tree, file_tree};
+ghost use Rattle.concept_unfold.specs.Built.{IsBuilt};
 ghost use Rattle.concept_unfold.specs.Declarations.{declared, variables, all_variables, outline_of};
 ghost use Rattle.concept_unfold.specs.Rows.{Checks};
 ghost use Rattle.concept_unfold.specs.ConceptRules.{item_rows, items_rows, concept_rows, concepts_rows, compute_rows, computes_rows, concept_rules};
 
 use crate::concepts::Concepts;
 use crate::fault::{Limit, Rule, UnfoldFault};
-use crate::rules::{expect_all_known, expect_at_most, expect_new, fault_at};
+use crate::rules::{
+    expect_all_known, expect_at_most, expect_givens_known, expect_inputs_known, expect_known,
+    expect_new, fault_at,
+};
 use crate::scope::Scope;
 use statement_set::Names;
 use std::alloc::Global;
-use std::slice;
-use utopist_parser::{Concept, File, Item};
+use utopist_syntax::{Concept, File, Item};
 
 const MAX_CONCEPTS: usize = 1024;
 
@@ -19,15 +23,16 @@ const MAX_COMPUTES: usize = 64;
 
 /// Checks the rules of concepts.
 pub fn check_concepts(alloc: Global, file: &File) -> Result<(), UnfoldFault>
-    ensures { Checks (concept_rules file.now) result }
+    requires built { IsBuilt (file_tree file.now) }
+    ensures { Checks (concept_rules (file_tree file.now)) result }
 {
     let concepts = check_each_concept(alloc, file.concepts.as_slice())?;
     check_each_compute(&concepts, file)
 }
 
 fn check_each_concept(alloc: Global, concepts: &[Concept]) -> Result<Concepts, UnfoldFault>
-    ensures rules { Checks (concepts_rows [] concepts.now) result }
-    ensures outline { IfOk result (λ o. o ≡ outline_of concepts.now) }
+    ensures rules { Checks (concepts_rows [] (map concept_tree concepts.now)) result }
+    ensures outline { IfOk result (λ o. o ≡ outline_of (map concept_tree concepts.now)) }
 {
     let mut checked = Concepts::new(alloc);
     for concept in concepts {
@@ -41,9 +46,9 @@ fn check_concept(
     checked: &mut Concepts,
     concept: &Concept,
 ) -> Result<(), UnfoldFault>
-    ensures rules { Checks (concept_rows checked.old.names concept.now) result }
+    ensures rules { Checks (concept_rows checked.old.names (concept_tree concept.now)) result }
     ensures names { OnOk result (checked.new.names ≡ checked.old.names ++ concept.now.name.text ∷ []) }
-    ensures variables { OnOk result (checked.new.variables ≡ checked.old.variables ++ all_variables concept.now.items ∷ []) }
+    ensures variables { OnOk result (checked.new.variables ≡ checked.old.variables ++ all_variables (map item_tree concept.now.items) ∷ []) }
 {
     let name = &concept.name;
     let count = checked.names().len().saturating_add(1);
@@ -55,8 +60,8 @@ fn check_concept(
 }
 
 fn check_items(alloc: Global, items: &[Item]) -> Result<Names, UnfoldFault>
-    ensures rules { Checks (items_rows [] [] items.now) result }
-    ensures variables { IfOk result (λ vs. vs ≡ all_variables items.now) }
+    ensures rules { Checks (items_rows [] [] (map item_tree items.now)) result }
+    ensures variables { IfOk result (λ vs. vs ≡ all_variables (map item_tree items.now)) }
 {
     let mut scope = Scope::new(alloc);
     for item in items {
@@ -66,27 +71,29 @@ fn check_items(alloc: Global, items: &[Item]) -> Result<Names, UnfoldFault>
 }
 
 fn check_item(scope: &mut Scope, item: &Item) -> Result<(), UnfoldFault>
-    ensures rules { Checks (item_rows scope.old.names scope.old.variables item.now) result }
-    ensures names { OnOk result (scope.new.names ≡ scope.old.names ++ declared item.now) }
-    ensures variables { OnOk result (scope.new.variables ≡ scope.old.variables ++ variables item.now) }
+    ensures rules { Checks (item_rows scope.old.names scope.old.variables (item_tree item.now)) result }
+    ensures names { OnOk result (scope.new.names ≡ scope.old.names ++ declared (item_tree item.now)) }
+    ensures variables { OnOk result (scope.new.variables ≡ scope.old.variables ++ variables (item_tree item.now)) }
 {
     match item {
-        Item::Var { names } => scope.declare_variables(names.as_slice()),
+        Item::Var { names, .. } => scope.declare_variables(names.as_slice()),
+        Item::Eq { .. } => Ok(()),
         Item::Rel {
             name,
-            inputs,
+            parts,
             output,
+            ..
         } => {
             scope.declare_operator(name)?;
-            expect_all_known(scope.variables(), inputs.as_slice())?;
-            expect_all_known(scope.variables(), slice::from_ref(output))
+            expect_inputs_known(scope.variables(), parts.as_slice())?;
+            expect_known(scope.variables(), output)
         }
     }
 }
 
 fn check_each_compute(concepts: &Concepts, file: &File) -> Result<(), UnfoldFault>
-    requires { concepts.now ≡ outline_of file.now.concepts }
-    ensures { Checks (computes_rows file.now.concepts 0 file.now.computes) result }
+    requires { concepts.now ≡ outline_of (map concept_tree file.now.concepts) }
+    ensures { Checks (computes_rows (map concept_tree file.now.concepts) 0 file.now.computes) result }
 {
     for which in 0..file.computes.len() {
         check_compute(concepts, file, which)?;
@@ -95,9 +102,9 @@ fn check_each_compute(concepts: &Concepts, file: &File) -> Result<(), UnfoldFaul
 }
 
 fn check_compute(concepts: &Concepts, file: &File, which: usize) -> Result<(), UnfoldFault>
-    requires outline { concepts.now ≡ outline_of file.now.concepts }
+    requires outline { concepts.now ≡ outline_of (map concept_tree file.now.concepts) }
     requires which { which < length file.now.computes }
-    ensures { (c : Compute) → slice_get file.now.computes which ≡ Some c → Checks (compute_rows file.now.concepts which c) result }
+    ensures { (c : Compute) → slice_get file.now.computes which ≡ Some c → Checks (compute_rows (map concept_tree file.now.concepts) which c) result }
 {
     let compute = &file.computes.as_slice()[which];
     let name = &compute.name;
@@ -105,6 +112,6 @@ fn check_compute(concepts: &Concepts, file: &File, which: usize) -> Result<(), U
     let Some(variables) = concepts.variables(name.text()) else {
         return Err(fault_at(name, Rule::UnknownConcept));
     };
-    expect_all_known(variables, compute.givens.as_slice())?;
+    expect_givens_known(variables, compute.givens.as_slice())?;
     expect_all_known(variables, compute.wants.as_slice())
 }

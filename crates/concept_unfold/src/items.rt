@@ -1,6 +1,8 @@
-ghost use Rattle.std.specs.Prelude.{◌≡◌, ◌+◌, ◌<◌, ◌≤◌, ◌∷◌, ◌++◌, [], length, Contains, OnOk};
+ghost use Rattle.std.specs.Prelude.{◌≡◌, ◌+◌, ◌<◌, ◌≤◌, ◌∷◌, ◌++◌, [], length, map, OnOk};
 ghost use Rattle.std.specs.List.{flat_map, sum_by};
 ghost use Rattle.statement_set.specs.Problem.{empty_task};
+ghost use Rattle.utopist_syntax.specs.FileTree.{item_tree};
+ghost use Rattle.concept_unfold.specs.Paths.{inputs_of, IsOneOf};
 ghost use Rattle.concept_unfold.specs.Declarations.{texts, variables, all_variables};
 ghost use Rattle.concept_unfold.specs.Rows.{AllHold};
 ghost use Rattle.concept_unfold.specs.ConceptRules.{once_rows, item_rows, items_rows};
@@ -8,21 +10,20 @@ ghost use Rattle.concept_unfold.specs.UnfoldingRules.{statements_in};
 ghost use Rattle.concept_unfold.specs.Unfolded.{plain_statement, statements_of, AreKnown};
 
 use crate::fault::Rule;
-use crate::numbers::{var_of, vars_of};
+use crate::numbers::{input_vars, var_of};
 use priz_base::NoMem;
 use sqlite_items::Items;
 use statement_set::{Problem, Statement};
 use std::alloc::Global;
-use utopist_parser::Item;
-use utopist_syntax::Name;
+use utopist_syntax::{Item, Name, Part, Path};
 
 /// Adds the variables and the statements of items to an empty problem.
 pub(crate) fn add_items(alloc: Global, problem: &mut Problem, items: &[Item]) -> Result<(), NoMem>
     requires empty { problem.old ≡ empty_task }
-    requires rules { AllHold (items_rows [] [] items.now) }
-    requires names { length (all_variables items.now) ≤ 1024 }
-    requires statements { sum_by statements_in items.now ≤ 4096 }
-    ensures { OnOk result (problem.new ≡ record empty_task { names = all_variables items.now; statements = flat_map (statements_of (all_variables items.now)) items.now }) }
+    requires rules { AllHold (items_rows [] [] (map item_tree items.now)) }
+    requires names { length (all_variables (map item_tree items.now)) ≤ 1024 }
+    requires statements { sum_by statements_in (map item_tree items.now) ≤ 4096 }
+    ensures { OnOk result (problem.new ≡ record empty_task { names = all_variables (map item_tree items.now); statements = flat_map (statements_of (all_variables (map item_tree items.now))) (map item_tree items.now) }) }
 {
     for item in items {
         add_item(alloc, problem, item)?;
@@ -31,16 +32,15 @@ pub(crate) fn add_items(alloc: Global, problem: &mut Problem, items: &[Item]) ->
 }
 
 fn add_item(alloc: Global, problem: &mut Problem, item: &Item) -> Result<(), NoMem>
-    requires rules { AllHold (item_rows problem.old.names problem.old.names item.now) }
-    requires names { length problem.old.names + length (variables item.now) ≤ 1024 }
-    requires statements { length problem.old.statements + statements_in item.now ≤ 4096 }
-    ensures { OnOk result (problem.new ≡ record problem.old { names = problem.old.names ++ variables item.now; statements = problem.old.statements ++ statements_of problem.old.names item.now }) }
+    requires rules { AllHold (item_rows problem.old.names problem.old.names (item_tree item.now)) }
+    requires names { length problem.old.names + length (variables (item_tree item.now)) ≤ 1024 }
+    requires statements { length problem.old.statements + statements_in (item_tree item.now) ≤ 4096 }
+    ensures { OnOk result (problem.new ≡ record problem.old { names = problem.old.names ++ variables (item_tree item.now); statements = problem.old.statements ++ statements_of problem.old.names (item_tree item.now) }) }
 {
     match item {
-        Item::Var { names } => add_variables(problem, names.as_slice()),
-        Item::Rel { inputs, output, .. } => {
-            add_statement(alloc, problem, inputs.as_slice(), output)
-        }
+        Item::Var { names, .. } => add_variables(problem, names.as_slice()),
+        Item::Eq { .. } => Ok(()),
+        Item::Rel { parts, output, .. } => add_statement(alloc, problem, parts.as_slice(), output),
     }
 }
 
@@ -58,16 +58,16 @@ fn add_variables(problem: &mut Problem, names: &[Name]) -> Result<(), NoMem>
 fn add_statement(
     alloc: Global,
     problem: &mut Problem,
-    inputs: &[Name],
-    output: &Name,
+    parts: &[Part],
+    output: &Path,
 ) -> Result<(), NoMem>
-    requires inputs { AreKnown problem.old.names inputs.now }
-    requires output { Contains problem.old.names output.now.text }
+    requires inputs { AreKnown problem.old.names (inputs_of parts.now) }
+    requires output { IsOneOf problem.old.names output.now }
     requires room { length problem.old.statements < 4096 }
-    ensures { OnOk result (problem.new ≡ record problem.old { statements = problem.old.statements ++ plain_statement problem.old.names inputs.now output.now ∷ [] }) }
+    ensures { OnOk result (problem.new ≡ record problem.old { statements = problem.old.statements ++ plain_statement problem.old.names (inputs_of parts.now) output.now ∷ [] }) }
 {
     problem.is_well_formed();
-    let inputs = vars_of(alloc, problem, inputs)?;
+    let inputs = input_vars(alloc, problem, parts)?;
     let output = var_of(problem, output);
     let subs = Items::new(alloc);
     problem.add_statement(Statement {

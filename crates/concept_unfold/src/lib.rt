@@ -1,6 +1,7 @@
 //! From a file to the problems of its compute statements: the rules of concepts, and unfolding.
 #![tactic(auto)]
 
+mod built;
 mod check;
 mod concepts;
 mod fault;
@@ -14,6 +15,7 @@ mod scope;
 mod tests;
 mod unfolding;
 
+pub use built::is_built;
 pub use check::check_concepts;
 pub use fault::{Limit, ModelFault, Rule, UnfoldFault};
 pub use unfolding::unfold;

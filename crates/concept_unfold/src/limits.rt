@@ -1,12 +1,14 @@
-ghost use Rattle.std.specs.Prelude.{◌≡◌, ◌-◌, ◌^◌, length, min};
+ghost use Rattle.std.specs.Prelude.{◌≡◌, ◌-◌, ◌^◌, length, map, min};
 ghost use Rattle.std.specs.List.{sum_by};
+ghost use Rattle.utopist_syntax.specs.FileTree.{item_tree};
+ghost use Rattle.concept_unfold.specs.Paths.{inputs_of};
 ghost use Rattle.concept_unfold.specs.Declarations.{variables, all_variables};
 ghost use Rattle.concept_unfold.specs.Rows.{Checks};
 ghost use Rattle.concept_unfold.specs.UnfoldingRules.{size_of, statements_in, limit_rows};
 
 use crate::fault::{Limit, UnfoldFault};
 use crate::rules::expect_at_most;
-use utopist_parser::{Compute, Item};
+use utopist_syntax::{Compute, Item, Part};
 
 const MAX_PATHS: usize = 8192;
 
@@ -26,7 +28,7 @@ struct Counts {
 
 /// Checks the limits of the problem of these items.
 pub(crate) fn check_limits(compute: &Compute, items: &[Item]) -> Result<(), UnfoldFault>
-    ensures { Checks (limit_rows compute.now items.now) result }
+    ensures { Checks (limit_rows compute.now (map item_tree items.now)) result }
 {
     let name = &compute.name;
     let counts = count(items);
@@ -37,9 +39,9 @@ pub(crate) fn check_limits(compute: &Compute, items: &[Item]) -> Result<(), Unfo
 }
 
 fn count(items: &[Item]) -> Counts
-    ensures variables { result.variables ≡ min (length (all_variables items.now)) (2 ^ 64 - 1) }
-    ensures size { result.size ≡ min (sum_by size_of items.now) (2 ^ 64 - 1) }
-    ensures statements { result.statements ≡ min (sum_by statements_in items.now) (2 ^ 64 - 1) }
+    ensures variables { result.variables ≡ min (length (all_variables (map item_tree items.now))) (2 ^ 64 - 1) }
+    ensures size { result.size ≡ min (sum_by size_of (map item_tree items.now)) (2 ^ 64 - 1) }
+    ensures statements { result.statements ≡ min (sum_by statements_in (map item_tree items.now)) (2 ^ 64 - 1) }
 {
     let mut variables = 0usize;
     let mut size = 0usize;
@@ -57,28 +59,40 @@ fn count(items: &[Item]) -> Counts
 }
 
 fn variables_in(item: &Item) -> usize
-    ensures { result ≡ length (variables item.now) }
+    ensures { result ≡ length (variables (item_tree item.now)) }
 {
     match item {
-        Item::Var { names } => names.len(),
-        Item::Rel { .. } => 0,
+        Item::Var { names, .. } => names.len(),
+        Item::Eq { .. } | Item::Rel { .. } => 0,
     }
 }
 
 fn size_of(item: &Item) -> usize
-    ensures { result ≡ min (size_of item.now) (2 ^ 64 - 1) }
+    ensures { result ≡ min (size_of (item_tree item.now)) (2 ^ 64 - 1) }
 {
     match item {
-        Item::Var { .. } => 0,
-        Item::Rel { inputs, .. } => inputs.len().saturating_add(1),
+        Item::Var { .. } | Item::Eq { .. } => 0,
+        Item::Rel { parts, .. } => input_count(parts.as_slice()).saturating_add(1),
     }
 }
 
+fn input_count(parts: &[Part]) -> usize
+    ensures { result ≡ length (inputs_of parts.now) }
+{
+    let mut count = 0usize;
+    for part in parts {
+        if let Part::Input(_) = part {
+            count += 1;
+        }
+    }
+    count
+}
+
 fn statements_in(item: &Item) -> usize
-    ensures { result ≡ statements_in item.now }
+    ensures { result ≡ statements_in (item_tree item.now) }
 {
     match item {
-        Item::Var { .. } => 0,
+        Item::Var { .. } | Item::Eq { .. } => 0,
         Item::Rel { .. } => 1,
     }
 }

@@ -1,16 +1,18 @@
 // Files whose rules hold, and texts that break each rule that can fail.
 ghost use Rattle.std.specs.Prelude.{IfOk};
-ghost use Rattle.utopist_parser.specs.Forms.{AllAsk};
+ghost use Rattle.utopist_syntax.specs.Asks.{AllAsk};
+ghost use Rattle.utopist_syntax.specs.FileTree.{file_tree};
 
-use crate::{Limit, ModelFault, Rule, UnfoldFault, check_concepts, unfold};
+use crate::{Limit, ModelFault, Rule, UnfoldFault, check_concepts, is_built, unfold};
 use priz_base::{MAX_INPUT, Place};
 use statement_set::Problem;
 use std::alloc::{AllocError, Global};
 use std::test::Fail;
-use utopist_parser::{File, ParseFault, parse};
+use utopist_parser::{ParseFault, parse};
+use utopist_syntax::File;
 
 fn read(alloc: Global, text: &str) -> Result<File, ParseFault>
-    ensures { IfOk result AllAsk }
+    ensures { IfOk result (λ f. AllAsk (file_tree f)) }
 {
     if text.len() > MAX_INPUT {
         return Err(ParseFault::NoMem);
@@ -26,11 +28,14 @@ fn fault(rule: Rule, at: u32, line: u32, col: u32) -> UnfoldFault {
 }
 
 /// What comes first: a rule of concepts that fails, or one of unfolding at the first compute statement. A text that
-/// doesn't read is `NoMem`, which no test expects.
+/// doesn't read, or has a form that isn't built, is `NoMem`, which no test expects.
 fn first_fault(alloc: Global, text: &str) -> Result<(), UnfoldFault> {
     let Ok(file) = read(alloc, text) else {
         return Err(UnfoldFault::NoMem);
     };
+    if !is_built(&file) {
+        return Err(UnfoldFault::NoMem);
+    }
     check_concepts(alloc, &file)?;
     if !file.computes.is_empty() {
         unfold(alloc, &file, 0)?;
@@ -62,6 +67,7 @@ fn unfolds_each_compute_statement(rt: HostRuntime) -> Result<(), Fail> {
     let text =
         "concept m : ( var a, b : numeric; var c : numeric; rel r : a, b, a -> c; ); concept n : ( var c, a : numeric; rel r : c -> a; ); compute n : ( given c; find a ); compute m : ( given b, a; find c, c );";
     let file = read(alloc, text).expect(&rt, "it reads");
+    assert!(rt; is_built(&file));
     check_concepts(alloc, &file).expect(&rt, "no rule of concepts fails");
     assert!(rt; file.computes.len() == 2);
     let first = unfold(alloc, &file, 0).expect(&rt, "no rule of unfolding fails");
@@ -143,6 +149,20 @@ fn names_the_first_rule_that_fails(rt: HostRuntime) -> Result<(), Fail> {
             44,
             1,
             45,
+        ),
+        (
+            "concept m : ( var a : numeric; rel r : a.b -> a; );",
+            Rule::UnknownPath,
+            39,
+            1,
+            40,
+        ),
+        (
+            "concept m : ( var a : numeric; ); compute m : ( given a; find a.a );",
+            Rule::UnknownPath,
+            62,
+            1,
+            63,
         ),
         (
             "concept m : ( rel r : -> a; var a : numeric; );",

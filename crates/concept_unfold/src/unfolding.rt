@@ -1,7 +1,9 @@
-ghost use Rattle.std.specs.Prelude.{◌≡◌, ◌≢◌, ◌<◌, [], length, slice_get, Some, All, IfOk};
+ghost use Rattle.std.specs.Prelude.{◌≡◌, ◌≢◌, ◌<◌, [], length, map, slice_get, Some, All, IfOk};
 ghost use Rattle.statement_set.specs.Problem.{IsWhole};
-ghost use Rattle.utopist_parser.specs.declared.tree.Compute.{Compute};
-ghost use Rattle.utopist_parser.specs.Forms.{AllAsk};
+ghost use Rattle.utopist_syntax.specs.declared.compute.Compute.{Compute};
+ghost use Rattle.utopist_syntax.specs.FileTree.{item_tree, concept_tree, file_tree};
+ghost use Rattle.utopist_syntax.specs.Asks.{AllAsk};
+ghost use Rattle.concept_unfold.specs.Built.{IsBuilt};
 ghost use Rattle.concept_unfold.specs.Rows.{AllHold};
 ghost use Rattle.concept_unfold.specs.ConceptRules.{concept_rules};
 ghost use Rattle.concept_unfold.specs.Declarations.{items_of};
@@ -13,14 +15,15 @@ use crate::items::add_items;
 use crate::limits::check_limits;
 use statement_set::Problem;
 use std::alloc::Global;
-use utopist_parser::{Concept, File, Item};
+use utopist_syntax::{Concept, File, Item};
 
 /// The problem of a compute statement, by its number from 0.
 pub fn unfold(alloc: Global, file: &File, which: u32) -> Result<Problem, UnfoldFault>
     requires which { which < length file.now.computes }
-    requires rules { AllHold (concept_rules file.now) }
-    requires wants { AllAsk file.now }
-    ensures problem { (c : Compute) → slice_get file.now.computes which ≡ Some c → UnfoldOf file.now c result }
+    requires built { IsBuilt (file_tree file.now) }
+    requires rules { AllHold (concept_rules (file_tree file.now)) }
+    requires wants { AllAsk (file_tree file.now) }
+    ensures problem { (c : Compute) → slice_get file.now.computes which ≡ Some c → UnfoldOf (file_tree file.now) c result }
     ensures whole { IfOk result IsWhole }
     ensures plain { IfOk result (λ p. All (λ s. s.subs ≡ []) p.statements) }
 {
@@ -35,7 +38,7 @@ pub fn unfold(alloc: Global, file: &File, which: u32) -> Result<Problem, UnfoldF
 
 /// The items of the concept of that name.
 fn items_of<'a>(concepts: &'a [Concept], name: &str) -> &'a [Item]
-    ensures { result.now ≡ items_of concepts.now name.now }
+    ensures { map item_tree result.now ≡ items_of (map concept_tree concepts.now) name.now }
 {
     for concept in concepts {
         if concept.name.text() == name {

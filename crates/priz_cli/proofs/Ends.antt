@@ -3,7 +3,7 @@ use Rattle.std.proofs.Common.{◌≡◌, ◌≢◌, ◌≤◌, ℕ, ◌+◌, Lis
 use Rattle.std.specs.Prelude.{IfSome}
 use Rattle.std.specs.declared.option.Option.{Option}
 use Rattle.priz_base.specs.Reading.{max_input, TakesTooMany}
-use Rattle.utopist_parser.specs.declared.tree.File.{File}
+use Rattle.utopist_syntax.specs.FileTree.{FileTree}
 use Rattle.priz_cli.specs.declared.outcome.Outcome.{Outcome}
 use Rattle.priz_cli.specs.declared.outcome.Outcome.TheVariants as outcome
 use Rattle.priz_cli.specs.Accepted.{Accepts}
@@ -19,7 +19,7 @@ few_taken bytes (Some more) (taken, many, rest) few =
 -- accepted bytes are answered, or memory is wanted, or the outside failed
 pub answered : (o : Outcome) (left left' written written' : Option (List ℕ)) (read write : Type 0)
     → Leaves o left left' written written' → o ≢ outcome.Usage → (o ≡ outcome.ReadFault → read) → (o ≡ outcome.WriteFault → write) → ¬ read → ¬ write
-    → IfSome left (λ bytes. (f : File) → Accepts bytes f → IsAnswered o)
+    → IfSome left (λ bytes. (f : FileTree) → Accepts bytes f → IsAnswered o)
 answered o None left' written written' read write h mode on_read on_write no_read no_write = tt
 answered (outcome.Solved answers) (Some bytes) left' written written' read write h mode on_read on_write no_read no_write = λ f a. tt
 answered outcome.Usage (Some bytes) left' written written' read write h mode on_read on_write no_read no_write = λ f a. mode refl

@@ -4,3 +4,5 @@ pub mod Unfolds
 pub mod Answered
 pub mod Steps
 pub mod Ends
+pub mod UnbuiltTokens
+pub mod BuiltForms

@@ -6,9 +6,8 @@ use Rattle.std.proofs.lemmas.List.Elements.{All-append}
 use Rattle.std.proofs.lemmas.Option.{get_or_from_slice_get}
 use Rattle.std.proofs.lemmas.List.{length-map}
 use Rattle.priz_base.proofs.More.{map_more}
-use Rattle.utopist_parser.specs.declared.tree.Concept.{Concept}
-use Rattle.utopist_parser.specs.declared.tree.Compute.{Compute}
-use Rattle.utopist_parser.specs.declared.tree.File.{File}
+use Rattle.utopist_syntax.specs.declared.compute.Compute.{Compute}
+use Rattle.utopist_syntax.specs.FileTree.{ConceptTree, FileTree}
 use Rattle.statement_set.specs.Problem.{Task}
 use Rattle.statement_set.proofs.Lists.{all_left, all_right}
 use Rattle.concept_unfold.specs.declared.fault.UnfoldFault.{UnfoldFault}
@@ -26,7 +25,7 @@ use Rattle.priz_cli.proofs.Rows.{first_before, first_behind, first_at, more_hold
 -- ---- how many there are
 
 -- with those before them
-few_from : (concepts : List Concept) (before : ℕ) (cs : List Compute) → before ≤ 64 → AllHold (computes_rows concepts before cs) → before + length cs ≤ 64
+few_from : (concepts : List ConceptTree) (before : ℕ) (cs : List Compute) → before ≤ 64 → AllHold (computes_rows concepts before cs) → before + length cs ≤ 64
 few_from concepts before [] le h = omega arith
 few_from concepts before (c ∷ cs) le h =
     let P : Row → Type 0 = λ r. Holds r.check in
@@ -38,13 +37,13 @@ few_from concepts before (c ∷ cs) le h =
     omega arith
 
 -- the rules of concepts leave few compute statements
-pub few_computes : (f : File) → AllHold (concept_rules f) → length f.computes ≤ 64
+pub few_computes : (f : FileTree) → AllHold (concept_rules f) → length f.computes ≤ 64
 few_computes f h =
     let rest : 0 + length f.computes ≤ 64 = few_from f.concepts 0 f.computes (omega arith) (all_right (λ r. Holds r.check) (concepts_rows [] f.concepts) (computes_rows f.concepts 0 f.computes) h) in
     omega arith
 
 -- and where all rules hold there are few problems
-pub few_problems : (f : File) → AllHold (rules_of f) → length (problems_of f) ≤ 64
+pub few_problems : (f : FileTree) → AllHold (rules_of f) → length (problems_of f) ≤ 64
 few_problems f h =
     let few = few_computes f (all_left (λ r. Holds r.check) (concept_rules f) (flat_map (unfolding_rules f) f.computes) h) in
     subst (λ n. n ≤ 64) (sym (length-map f.computes (problem_of f))) few
@@ -58,7 +57,7 @@ some_at (x ∷ xs) zero lt = (x, refl)
 some_at (x ∷ xs) (suc i) lt = some_at xs i (omega arith)
 
 -- one more is unfolded, and its rules hold
-pub unfolded_more : (f : File) (i : ℕ) (p : Task) → i < length f.computes → ((c : Compute) → slice_get f.computes i ≡ Some c → UnfoldOf f c (Ok p))
+pub unfolded_more : (f : FileTree) (i : ℕ) (p : Task) → i < length f.computes → ((c : Compute) → slice_get f.computes i ≡ Some c → UnfoldOf f c (Ok p))
     → AllHold (flat_map (unfolding_rules f) (take i f.computes))
     → AllHold (flat_map (unfolding_rules f) (take (i + 1) f.computes)) × (map (problem_of f) (take (i + 1) f.computes) ≡ map (problem_of f) (take i f.computes) ++ p ∷ [])
 unfolded_more f i p lt unfolded hold =
@@ -70,7 +69,7 @@ unfolded_more f i p lt unfolded hold =
     )
 
 -- one is not, for this cause
-pub unfolding_fails : (f : File) (i : ℕ) (e : UnfoldFault) → i < length f.computes → ((c : Compute) → slice_get f.computes i ≡ Some c → UnfoldOf f c (Err e))
+pub unfolding_fails : (f : FileTree) (i : ℕ) (e : UnfoldFault) → i < length f.computes → ((c : Compute) → slice_get f.computes i ≡ Some c → UnfoldOf f c (Err e))
     → AllHold (flat_map (unfolding_rules f) (take i f.computes)) → Checks {X = List Task} (flat_map (unfolding_rules f) f.computes) (Err e)
 unfolding_fails f i (fault.Model m) lt fails hold =
     let at = some_at f.computes i lt in first_at (unfolding_rules f) f.computes i at.0 m at.1 hold (fails at.0 at.1)
@@ -79,12 +78,12 @@ unfolding_fails f i fault.NoMem lt fails hold = tt
 -- ---- behind the rules of concepts
 
 -- where a rule of concepts fails it is the first of all
-pub concepts_fail : (f : File) (e : UnfoldFault) → Checks {X = Unit {0}} (concept_rules f) (Err e) → Checks {X = List Task} (rules_of f) (Err e)
+pub concepts_fail : (f : FileTree) (e : UnfoldFault) → Checks {X = Unit {0}} (concept_rules f) (Err e) → Checks {X = List Task} (rules_of f) (Err e)
 concepts_fail f (fault.Model m) h = first_before (concept_rules f) (flat_map (unfolding_rules f) f.computes) m h
 concepts_fail f fault.NoMem h = tt
 
 -- where they hold those of unfolding decide
-pub unfolding_decides : (f : File) (r : Result (List Task) UnfoldFault) → AllHold (concept_rules f) → Checks (flat_map (unfolding_rules f) f.computes) r → Checks (rules_of f) r
+pub unfolding_decides : (f : FileTree) (r : Result (List Task) UnfoldFault) → AllHold (concept_rules f) → Checks (flat_map (unfolding_rules f) f.computes) r → Checks (rules_of f) r
 unfolding_decides f (Ok ps) hold h = All-append (λ r. Holds r.check) (concept_rules f) (flat_map (unfolding_rules f) f.computes) hold h
 unfolding_decides f (Err (fault.Model m)) hold h = first_behind (concept_rules f) (flat_map (unfolding_rules f) f.computes) m hold h
 unfolding_decides f (Err fault.NoMem) hold h = tt

@@ -11,6 +11,7 @@ use Rattle.priz_cli.specs.declared.fault.Fault.TheVariants as fault
 abbrev pub parse_fault : ParseFault → Fault
 parse_fault (parsing.Lex f) = fault.Refused (refusal.Lex f)
 parse_fault (parsing.Expected p) = fault.Refused (refusal.Expected p)
+parse_fault (parsing.TooDeep p) = fault.Refused (refusal.TooDeep p)
 parse_fault parsing.NoMem = fault.NoMem
 
 -- a file for which a rule fails is refused

@@ -27,6 +27,7 @@ abbrev pub refusal_text : Refusal → List ℕ
 refusal_text (refusal.NotUtf8 n) = utf8_text n
 refusal_text (refusal.Lex f) = placed_text f.place (lex_text f.kind)
 refusal_text (refusal.Expected p) = placed_text p (codes "unexpected token")
+refusal_text (refusal.TooDeep p) = placed_text p (codes "nesting too deep")
 refusal_text (refusal.Model m) = placed_text m.place (rule_text m.rule)
 
 -- the message of an outcome; a report has none

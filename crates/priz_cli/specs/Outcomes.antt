@@ -5,7 +5,7 @@ use Rattle.std.specs.Io.KnownBytes.{Keeps, Appends, IsAtEnd}
 use Rattle.priz_base.specs.Faults.{Rose}
 use Rattle.priz_base.specs.Reading.{max_input, Takes, TakesTooMany}
 use Rattle.priz_base.specs.Writing.{WritesPart}
-use Rattle.utopist_parser.specs.declared.tree.File.{File}
+use Rattle.utopist_syntax.specs.FileTree.{FileTree}
 use Rattle.answer_core.specs.declared.verdict.Answer.{Answer}
 use Rattle.priz_cli.specs.declared.outcome.Outcome.{Outcome}
 use Rattle.priz_cli.specs.declared.outcome.Outcome.TheVariants as outcome
@@ -22,7 +22,7 @@ ReadOut left left' = Takes max_input left left' × IsAtEnd left'
 abbrev pub Leaves : Outcome → Option (List ℕ) → Option (List ℕ) → Option (List ℕ) → Option (List ℕ) → Type 0
 -- the bytes were accepted and read to the end, and the report of these answers was written, one for each compute statement
 Leaves (outcome.Solved answers) left left' written written' =
-    (f : File) × IfSome left (λ bytes. Accepts bytes f) × ReadOut left left' × AreAnswers (problems_of f) answers
+    (f : FileTree) × IfSome left (λ bytes. Accepts bytes f) × ReadOut left left' × AreAnswers (problems_of f) answers
     × Appends written written' (report_of (problems_of f) answers)
 -- nothing was read or written
 Leaves outcome.Usage left left' written written' = Keeps left left' × Keeps written written'
@@ -34,7 +34,7 @@ Leaves outcome.InputTooLong left left' written written' = TakesTooMany left left
 Leaves outcome.ReadFault left left' written written' = Takes max_input left left' × Keeps written written'
 -- the bytes were accepted and read to the end, and a proper prefix of a report of right answers was written
 Leaves outcome.WriteFault left left' written written' =
-    (f : File) × IfSome left (λ bytes. Accepts bytes f) × ReadOut left left'
+    (f : FileTree) × IfSome left (λ bytes. Accepts bytes f) × ReadOut left left'
     × ((answers : List Answer) × AreAnswers (problems_of f) answers × WritesPart written written' (report_of (problems_of f) answers))
 -- at most one byte more than the limit was read
 Leaves outcome.NoMem left left' written written' = Takes (max_input + 1) left left' × Keeps written written'

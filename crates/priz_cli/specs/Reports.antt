@@ -1,6 +1,6 @@
 -- Answers to several problems, and their report.
 use Rattle.std.specs.Prelude.{ℕ, ◌+◌, List, [], ◌∷◌, ◌++◌, map}
-use Rattle.utopist_parser.specs.declared.tree.File.{File}
+use Rattle.utopist_syntax.specs.FileTree.{FileTree}
 use Rattle.statement_set.specs.Problem.{Task}
 use Rattle.concept_unfold.specs.Unfolded.{problem_of}
 use Rattle.answer_core.specs.declared.verdict.Answer.{Answer}
@@ -8,7 +8,7 @@ use Rattle.answer_core.specs.Answers.{IsAnswer}
 use Rattle.answer_core.specs.Report.{answer_text}
 
 -- the problems of a file's compute statements, in order
-abbrev pub problems_of : File → List Task
+abbrev pub problems_of : FileTree → List Task
 problems_of f = map (problem_of f) f.computes
 
 -- each problem has its answer, in order

@@ -1,6 +1,8 @@
 -- What the steps of the program answer.
 use Rattle.std.specs.Prelude.{◌≡◌, ℕ, List, Result, Ok, Err}
-use Rattle.utopist_parser.specs.declared.tree.File.{File}
+use Rattle.utopist_syntax.specs.declared.file.File.{File}
+use Rattle.utopist_syntax.specs.FileTree.{FileTree, file_tree}
+use Rattle.concept_unfold.specs.Built.{IsBuilt}
 use Rattle.statement_set.specs.Problem.{Task}
 use Rattle.concept_unfold.specs.declared.fault.ModelFault.{ModelFault}
 use Rattle.concept_unfold.specs.Rows.{AllHold, FirstFailing}
@@ -13,10 +15,10 @@ use Rattle.priz_cli.specs.Accepted.{Spells, Accepts}
 use Rattle.priz_cli.specs.Refused.{Refuses, IsRefused}
 use Rattle.priz_cli.specs.Reports.{problems_of, AreAnswers, report_of}
 
--- the one file that the bytes spell, or why they spell none
+-- the one file that the bytes spell, whose forms are built, or why there is none
 abbrev pub FormOf : List ℕ → Result File Fault → Type 0
-FormOf bytes (Ok f) = Spells bytes f × ((g : File) → Spells bytes g → g ≡ f)
-FormOf bytes (Err (fault.Refused r)) = Refuses bytes r × ((f : File) → ¬ Spells bytes f)
+FormOf bytes (Ok f) = Spells bytes (file_tree f) × IsBuilt (file_tree f) × ((g : FileTree) → Spells bytes g → g ≡ file_tree f)
+FormOf bytes (Err (fault.Refused r)) = Refuses bytes r × ((f : FileTree) → Spells bytes f → ¬ IsBuilt f)
 FormOf bytes (Err fault.NoMem) = Unit {0}
 
 -- the answers to problems, and their report
@@ -25,13 +27,13 @@ pub record Solves (problems : List Task) (s : Solution) : Type 0 where
   pub report : s.report.items ≡ report_of problems s.answers
 
 -- the solution of a file, or the first rule that fails for it
-abbrev pub SolutionOf : File → Result Solution Fault → Type 0
+abbrev pub SolutionOf : FileTree → Result Solution Fault → Type 0
 SolutionOf f (Ok s) = AllHold (rules_of f) × Solves (problems_of f) s
 SolutionOf f (Err (fault.Refused r)) = (m : ModelFault) × (r ≡ refusal.Model m) × FirstFailing (rules_of f) m
 SolutionOf f (Err fault.NoMem) = Unit {0}
 
 -- the solution of the file that the bytes spell, or why they are refused
 abbrev pub AcceptedOf : List ℕ → Result Solution Fault → Type 0
-AcceptedOf bytes (Ok s) = (f : File) × Accepts bytes f × Solves (problems_of f) s
+AcceptedOf bytes (Ok s) = (f : FileTree) × Accepts bytes f × Solves (problems_of f) s
 AcceptedOf bytes (Err (fault.Refused r)) = IsRefused bytes r
 AcceptedOf bytes (Err fault.NoMem) = Unit {0}

@@ -31,6 +31,7 @@ impl From<ParseFault> for Fault {
         match fault {
             ParseFault::Lex(fault) => Fault::Refused(Refusal::Lex(fault)),
             ParseFault::Expected(place) => Fault::Refused(Refusal::Expected(place)),
+            ParseFault::TooDeep(place) => Fault::Refused(Refusal::TooDeep(place)),
             ParseFault::NoMem => Fault::NoMem,
         }
     }

@@ -11,6 +11,7 @@ mod solution;
 #[cfg(test)]
 mod tests;
 mod top;
+mod unbuilt;
 mod wording;
 mod words;
 

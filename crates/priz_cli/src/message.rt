@@ -41,6 +41,7 @@ fn write_refusal<K: Sink>(refusal: Refusal, sink: &mut K) -> bool
         Refusal::NotUtf8(at) => write_not_utf8(at, sink),
         Refusal::Lex(fault) => write_placed(fault.place, lex_text(fault.kind), sink),
         Refusal::Expected(place) => write_placed(place, b"unexpected token", sink),
+        Refusal::TooDeep(place) => write_placed(place, b"nesting too deep", sink),
         Refusal::Model(fault) => write_placed(fault.place, rule_text(fault.rule), sink),
     }
 }

@@ -1,7 +1,9 @@
 ghost use Rattle.std.specs.Prelude.{◌≡◌, All, IfOk, OnOk, ◌++◌, ◌∷◌, []};
 ghost use Rattle.std.specs.List.{flat_map};
 ghost use Rattle.statement_set.specs.Problem.{IsWhole};
-ghost use Rattle.utopist_parser.specs.Forms.{AllAsk};
+ghost use Rattle.utopist_syntax.specs.Asks.{AllAsk};
+ghost use Rattle.utopist_syntax.specs.FileTree.{file_tree};
+ghost use Rattle.concept_unfold.specs.Built.{IsBuilt};
 ghost use Rattle.concept_unfold.specs.Rows.{AllHold, Checks};
 ghost use Rattle.concept_unfold.specs.ConceptRules.{concept_rules};
 ghost use Rattle.concept_unfold.specs.UnfoldingRules.{unfolding_rules, rules_of};
@@ -13,13 +15,14 @@ use priz_base::NoMem;
 use sqlite_items::Items;
 use statement_set::Problem;
 use std::alloc::Global;
-use utopist_parser::File;
+use utopist_syntax::File;
 
 /// The problems of a file's compute statements.
 pub(crate) fn problems_of(alloc: Global, file: &File) -> Result<Items<Problem>, UnfoldFault>
-    requires wants { AllAsk file.now }
-    ensures rules { Checks (rules_of file.now) result }
-    ensures problems { IfOk result (λ ps. ps ≡ problems_of file.now) }
+    requires built { IsBuilt (file_tree file.now) }
+    requires wants { AllAsk (file_tree file.now) }
+    ensures rules { Checks (rules_of (file_tree file.now)) result }
+    ensures problems { IfOk result (λ ps. ps ≡ problems_of (file_tree file.now)) }
     ensures whole { IfOk result (All IsWhole) }
     ensures plain { IfOk result (All IsPlain) }
 {
@@ -28,10 +31,11 @@ pub(crate) fn problems_of(alloc: Global, file: &File) -> Result<Items<Problem>, 
 }
 
 fn unfold_all(alloc: Global, file: &File) -> Result<Items<Problem>, UnfoldFault>
-    requires rules { AllHold (concept_rules file.now) }
-    requires wants { AllAsk file.now }
-    ensures rules { Checks (flat_map (unfolding_rules file.now) file.now.computes) result }
-    ensures problems { IfOk result (λ ps. ps ≡ problems_of file.now) }
+    requires rules { AllHold (concept_rules (file_tree file.now)) }
+    requires built { IsBuilt (file_tree file.now) }
+    requires wants { AllAsk (file_tree file.now) }
+    ensures rules { Checks (flat_map (unfolding_rules (file_tree file.now)) file.now.computes) result }
+    ensures problems { IfOk result (λ ps. ps ≡ problems_of (file_tree file.now)) }
     ensures whole { IfOk result (All IsWhole) }
     ensures plain { IfOk result (All IsPlain) }
 {

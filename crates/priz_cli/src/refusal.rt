@@ -11,6 +11,8 @@ pub enum Refusal {
     Lex(LexFault),
     /// This token cannot stand here.
     Expected(Place),
+    /// With this token an expression is nested more than 64 deep.
+    TooDeep(Place),
     /// A rule of concepts or of unfolding fails.
     Model(ModelFault),
 }

@@ -1,6 +1,8 @@
 ghost use Rattle.std.specs.Prelude.{◌≤◌, length, All, IfOk};
 ghost use Rattle.statement_set.specs.Problem.{IsWhole};
-ghost use Rattle.utopist_parser.specs.Forms.{AllAsk};
+ghost use Rattle.utopist_syntax.specs.Asks.{AllAsk};
+ghost use Rattle.utopist_syntax.specs.FileTree.{file_tree};
+ghost use Rattle.concept_unfold.specs.Built.{IsBuilt};
 ghost use Rattle.answer_core.specs.Answers.{IsPlain};
 ghost use Rattle.priz_cli.specs.Steps.{Solves, SolutionOf};
 
@@ -11,7 +13,7 @@ use priz_base::NoMem;
 use sqlite_items::Items;
 use statement_set::Problem;
 use std::alloc::Global;
-use utopist_parser::File;
+use utopist_syntax::File;
 
 /// The answers to the compute statements, and their report.
 #[derive(Drop)]
@@ -22,8 +24,9 @@ pub(crate) struct Solution {
 
 /// Answers the compute statements of a file.
 pub(crate) fn solution_of(alloc: Global, file: &File) -> Result<Solution, Fault>
-    requires wants { AllAsk file.now }
-    ensures { SolutionOf file.now result }
+    requires built { IsBuilt (file_tree file.now) }
+    requires wants { AllAsk (file_tree file.now) }
+    ensures { SolutionOf (file_tree file.now) result }
 {
     let problems = problems_of(alloc, file)?;
     Ok(solve(alloc, problems.as_slice())?)

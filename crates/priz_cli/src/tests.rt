@@ -94,6 +94,35 @@ fn says_why_there_is_none(rt: HostRuntime) -> Result<(), Fail> {
             "compute m : ( find b );",
             "line 1, column 9: unknown concept",
         ),
+        (
+            "concept c : ( eq z = 1; var a : numeric );",
+            "line 1, column 41: unexpected token",
+        ),
+        // Forms that are read, and not built yet, come behind all faults of the text.
+        (
+            "concept c : ( ); concept d is c : ( );",
+            "line 1, column 28: unexpected token",
+        ),
+        (
+            "concept c : ( ); concept d : ( var a : c; );",
+            "line 1, column 40: unexpected token",
+        ),
+        (
+            "concept c : ( var a : numeric; eq b = a; );",
+            "line 1, column 32: unexpected token",
+        ),
+        (
+            "concept c : ( rel r : [a -> b] -> c; );",
+            "line 1, column 23: unexpected token",
+        ),
+        (
+            "concept c : ( rel r : a -> b { a }; );",
+            "line 1, column 30: unexpected token",
+        ),
+        (
+            "compute c : ( given a = 1; find b );",
+            "line 1, column 23: unexpected token",
+        ),
         // The rules of unfolding come behind those of concepts, and before the first answer.
         (
             "concept m : ( var a : numeric; );\ncompute m : ( find a );\ncompute m : ( given a, a; find a );",
@@ -111,6 +140,25 @@ fn says_why_there_is_none(rt: HostRuntime) -> Result<(), Fail> {
         assert_eq!(rt; status(&outcome), 3, "{text}");
         assert_eq!(rt; sink.written(), line.as_bytes(), "{text}");
     }
+    Ok(())
+}
+
+#[test]
+fn says_that_an_expression_is_nested_too_deep(rt: HostRuntime) -> Result<(), Fail> {
+    let alloc = rt.alloc();
+    let mut text = String::from_str(alloc, "concept c : ( eq a = ")?;
+    for _ in 0..63 {
+        text.push('(')?;
+    }
+    text.push_str("a + 1")?;
+    let mut source = SureSource::new(text.as_bytes(), 7);
+    let mut sink = MemSink::new(alloc, 100, 10, &[]).expect(&rt, "room");
+    let outcome = run(alloc, &words_of(alloc, "solve")?, &mut source, &mut sink);
+    assert_eq!(rt; status(&outcome), 3);
+    assert_eq!(rt;
+        sink.written(),
+        b"priz: line 1, column 87: nesting too deep\n".as_slice()
+    );
     Ok(())
 }
 

@@ -1,7 +1,7 @@
 ghost use Rattle.std.specs.Prelude.{◌≡◌, ◌≢◌, ◌≤◌, ◌↔◌, length, IfSome};
 ghost use Rattle.priz_base.specs.Faults.{Rose};
 ghost use Rattle.priz_base.specs.Reading.{max_input};
-ghost use Rattle.utopist_parser.specs.declared.tree.File.{File};
+ghost use Rattle.utopist_syntax.specs.FileTree.{FileTree};
 ghost use Rattle.priz_cli.specs.Words.{IsSolve};
 ghost use Rattle.priz_cli.specs.Accepted.{Accepts};
 ghost use Rattle.priz_cli.specs.Outcomes.{Leaves, RunLeaves, IsAnswered};
@@ -29,7 +29,7 @@ pub fn run<S: Source, K: Sink>(
     ensures read { result ≡ Outcome.ReadFault → Rose (S.faults source.old) (S.faults source.new) }
     ensures later_source { S.faults source.old ≤ S.faults source.new }
     ensures later_sink { K.faults sink.old ≤ K.faults sink.new }
-    ensures complete { IsSolve words.now → ¬ Rose (S.faults source.old) (S.faults source.new) → ¬ Rose (K.faults sink.old) (K.faults sink.new) → IfSome (S.left source.old) (λ bytes. (f : File) → Accepts bytes f → IsAnswered result) }
+    ensures complete { IsSolve words.now → ¬ Rose (S.faults source.old) (S.faults source.new) → ¬ Rose (K.faults sink.old) (K.faults sink.new) → IfSome (S.left source.old) (λ bytes. (f : FileTree) → Accepts bytes f → IsAnswered result) }
 {
     let outcome = priz(alloc, words, source, sink);
     message(&outcome, sink);
@@ -50,7 +50,7 @@ pub fn priz<S: Source, K: Sink>(
     ensures write { result ≡ Outcome.WriteFault → Rose (K.faults sink.old) (K.faults sink.new) }
     ensures later_source { S.faults source.old ≤ S.faults source.new }
     ensures later_sink { K.faults sink.old ≤ K.faults sink.new }
-    ensures complete { IsSolve words.now → ¬ Rose (S.faults source.old) (S.faults source.new) → ¬ Rose (K.faults sink.old) (K.faults sink.new) → IfSome (S.left source.old) (λ bytes. (f : File) → Accepts bytes f → IsAnswered result) }
+    ensures complete { IsSolve words.now → ¬ Rose (S.faults source.old) (S.faults source.new) → ¬ Rose (K.faults sink.old) (K.faults sink.new) → IfSome (S.left source.old) (λ bytes. (f : FileTree) → Accepts bytes f → IsAnswered result) }
 {
     if !is_solve(words) {
         return Outcome::Usage;

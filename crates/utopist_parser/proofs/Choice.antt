@@ -1,9 +1,9 @@
 -- The one or the other, by the next symbol, and nothing, keep the laws.
-use Rattle.std.proofs.Common.{◌≡◌, ℕ, ◌≤◌, Bool, true, false, cond, List, [], ◌∷◌, ◌++◌, Option, Ok, Err, refl, subst, inl, inr}
+use Rattle.std.proofs.Common.{◌≡◌, ℕ, ◌≤◌, Bool, true, false, cond, List, [], ◌∷◌, ◌++◌, Option, Ok, Err, refl, sym, subst, ◌∙◌, inl, inr}
 use Rattle.std.specs.Prelude.{◌⊎◌}
 use Rattle.utopist_parser.specs.Symbols.{Symbol}
 use Rattle.utopist_parser.specs.Steps.{Why, expected, deep, Fault, StepOf, give, next, meets, choose_at}
-use Rattle.utopist_parser.proofs.StepLaws.{AtHead, at_head, Form, Stuck, Further, Took, Blames, Laws, ok_is, same_next}
+use Rattle.utopist_parser.proofs.StepLaws.{AtHead, at_head, Form, Stuck, Further, Took, Blames, AgainAt, Laws, Aspect, again_only, all_laws, Keeps, ok_is, same_next}
 
 module _ {X Y : Type 0} (g : Form X) (d : Form Y) where
   abbrev spell_either : X ⊎ Y → List Symbol
@@ -22,64 +22,120 @@ module _ {X Y : Type 0} (g : Form X) (d : Form Y) where
   StopsEither (inl x) o = g.Stops x o
   StopsEither (inr y) o = d.Stops y o
 
+  -- a part of the one or of the other, where this may stand before
+  abbrev pub either_in : (Option Symbol → Type 0) → Form (X ⊎ Y)
+  either_in E = record { spell = spell_either; Fits = FitsEither; grows = grows_either; Stops = StopsEither; Enters = E }
+
   -- a part of the one or of the other
   abbrev pub either : Form (X ⊎ Y)
-  either = record { spell = spell_either; Fits = FitsEither; grows = grows_either; Stops = StopsEither; Enters = λ o. Unit {0} }
+  either = either_in (λ o. Unit {0})
 
 module _ {X Y V : Type 0} (see_x : X → V) (see_y : Y → V) where
   abbrev pub see_either : X ⊎ Y → V
   see_either (inl x) = see_x x
   see_either (inr y) = see_y y
 
-module _ {X Y V : Type 0} (g : Form X) (see_x : X → V) (d : Form Y) (see_y : Y → V) (begins : Symbol → Bool) (f k : StepOf V) (room : ℕ) (a : Laws g see_x f room) (b : Laws d see_y k room)
+module _ {X Y V : Type 0} (g : Form X) (see_x : X → V) (d : Form Y) (see_y : Y → V) (begins : Symbol → Bool) (f k : StepOf V)
     (yes_x : (x : X) (rest : List Symbol) → g.Stops x (next rest) → meets begins (next (g.spell x ++ rest)) ≡ true)
     (no_y : (y : Y) (rest : List Symbol) → d.Stops y (next rest) → meets begins (next (d.spell y ++ rest)) ≡ false)
-    (enters_x : (o : Option Symbol) → meets begins o ≡ true → g.Enters o) (enters_y : (o : Option Symbol) → meets begins o ≡ false → d.Enters o) where
-  choose_again : (M : ℕ) (z : X ⊎ Y) → FitsEither g d z M → (rest : List Symbol) → StopsEither g d z (next rest) → choose_at begins f k M (spell_either g d z ++ rest) ≡ Ok (see_either see_x see_y z, rest)
-  choose_again M (inl x) h rest s = rw (yes_x x rest s) (a.again M x h rest s)
-  choose_again M (inr y) h rest s = rw (no_y y rest s) (b.again M y h rest s)
+    (E : Option Symbol → Type 0) (enters_x : (o : Option Symbol) → meets begins o ≡ true → E o → g.Enters o) (enters_y : (o : Option Symbol) → meets begins o ≡ false → E o → d.Enters o) where
+  abbrev whole : Form (X ⊎ Y)
+  whole = either_in g d E
 
-  choose_take : (ts : List Symbol) (v : V × List Symbol) → choose_at begins f k room ts ≡ Ok v → Took (either g d) (see_either see_x see_y) room ts v
-  choose_take ts v e = go (meets begins (next ts)) refl e where
-    go : (t : Bool) → meets begins (next ts) ≡ t → cond t (f room ts) (k room ts) ≡ Ok v → Took (either g d) (see_either see_x see_y) room ts v
-    go true i h = let t = a.take ts v (enters_x _ i) h in record { part = inl t.part; seen = t.seen; parts = t.parts; fits = t.fits; stops = t.stops }
-    go false i h = let t = b.take ts v (enters_y _ i) h in record { part = inr t.part; seen = t.seen; parts = t.parts; fits = t.fits; stops = t.stops }
+  choose_again : (M : ℕ) → AgainAt g see_x f M → AgainAt d see_y k M → AgainAt whole (see_either see_x see_y) (choose_at begins f k) M
+  choose_again M a b = record { again = each } where
+    each : (z : X ⊎ Y) → FitsEither g d z M → (rest : List Symbol) → StopsEither g d z (next rest) → choose_at begins f k M (spell_either g d z ++ rest) ≡ Ok (see_either see_x see_y z, rest)
+    each (inl x) h rest s = rw (yes_x x rest s) (a.again x h rest s)
+    each (inr y) h rest s = rw (no_y y rest s) (b.again y h rest s)
 
-  choose_blames : (ts : List Symbol) (e : Fault) → choose_at begins f k room ts ≡ Err e → Blames (either g d) (choose_at begins f k) room ts e
-  choose_blames ts e h = go (meets begins (next ts)) refl h where
-    x_stuck : (front wrong : List Symbol) (why : Why) → meets begins (next (front ++ wrong)) ≡ true → AtHead wrong (Stuck f room why front) → AtHead wrong (Stuck (choose_at begins f k) room why front)
-    x_stuck front [] why i s = tt
-    x_stuck front (c ∷ cs) why i s = record { fails = λ M r more. rw (subst (λ o. meets begins o ≡ true) (same_next front c cs more) i) (s.fails M r more) }
+  module _ (room : ℕ) (a : Laws g see_x f room) (b : Laws d see_y k room) where
+    choose_take : (ts : List Symbol) (v : V × List Symbol) → E (next ts) → choose_at begins f k room ts ≡ Ok v → Took whole (see_either see_x see_y) room ts v
+    choose_take ts v n e = go (meets begins (next ts)) refl e where
+      go : (t : Bool) → meets begins (next ts) ≡ t → cond t (f room ts) (k room ts) ≡ Ok v → Took whole (see_either see_x see_y) room ts v
+      go true i h = let t = a.take ts v (enters_x _ i n) h in record { part = inl t.part; seen = t.seen; parts = t.parts; fits = t.fits; stops = t.stops }
+      go false i h = let t = b.take ts v (enters_y _ i n) h in record { part = inr t.part; seen = t.seen; parts = t.parts; fits = t.fits; stops = t.stops }
 
-    y_stuck : (front wrong : List Symbol) (why : Why) → meets begins (next (front ++ wrong)) ≡ false → AtHead wrong (Stuck k room why front) → AtHead wrong (Stuck (choose_at begins f k) room why front)
-    y_stuck front [] why i s = tt
-    y_stuck front (c ∷ cs) why i s = record { fails = λ M r more. rw (subst (λ o. meets begins o ≡ false) (same_next front c cs more) i) (s.fails M r more) }
+    choose_blames : (ts : List Symbol) (e : Fault) → E (next ts) → choose_at begins f k room ts ≡ Err e → Blames whole (choose_at begins f k) room ts e
+    choose_blames ts e n h = go (meets begins (next ts)) refl h where
+      x_stuck : (front wrong : List Symbol) (why : Why) → meets begins (next (front ++ wrong)) ≡ true → AtHead wrong (Stuck f room why front) → AtHead wrong (Stuck (choose_at begins f k) room why front)
+      x_stuck front [] why i s = tt
+      x_stuck front (c ∷ cs) why i s = record { fails = λ M r more. rw (subst (λ o. meets begins o ≡ true) (same_next front c cs more) i) (s.fails M r more) }
 
-    x_further : (why : Why) (front : List Symbol) (c : Symbol) → Further g why front c → Further (either g d) why front c
-    x_further expected front c u = tt
-    x_further deep front c u = (inl u.0, u.1, u.2)
+      y_stuck : (front wrong : List Symbol) (why : Why) → meets begins (next (front ++ wrong)) ≡ false → AtHead wrong (Stuck k room why front) → AtHead wrong (Stuck (choose_at begins f k) room why front)
+      y_stuck front [] why i s = tt
+      y_stuck front (c ∷ cs) why i s = record { fails = λ M r more. rw (subst (λ o. meets begins o ≡ false) (same_next front c cs more) i) (s.fails M r more) }
 
-    y_further : (why : Why) (front : List Symbol) (c : Symbol) → Further d why front c → Further (either g d) why front c
-    y_further expected front c u = tt
-    y_further deep front c u = (inr u.0, u.1, u.2)
+      x_further : (why : Why) (front : List Symbol) (c : Symbol) → Further g why front c → Further whole why front c
+      x_further expected front c u = tt
+      x_further deep front c u = (inl u.0, u.1, u.2, u.3, u.4)
 
-    go : (t : Bool) → meets begins (next ts) ≡ t → cond t (f room ts) (k room ts) ≡ Err e → Blames (either g d) (choose_at begins f k) room ts e
-    go true i h =
-        let u = a.blames ts e (enters_x _ i) h in
-        record {
-          front = u.front;
-          wrong = u.wrong;
-          split = u.split;
-          size = u.size;
-          begun = inl u.begun;
-          more = u.more;
-          fits = u.fits;
-          begins = u.begins;
-          stuck = x_stuck u.front u.wrong e.0 (subst (λ l. meets begins (next l) ≡ true) u.split i) u.stuck;
-          further = at_head (Further g e.0 u.front) (Further (either g d) e.0 u.front) (λ c s. x_further e.0 u.front c s) u.wrong u.further;
-        }
-    go false i h =
-        let u = b.blames ts e (enters_y _ i) h in
+      y_further : (why : Why) (front : List Symbol) (c : Symbol) → Further d why front c → Further whole why front c
+      y_further expected front c u = tt
+      y_further deep front c u = (inr u.0, u.1, u.2, u.3, u.4)
+
+      go : (t : Bool) → meets begins (next ts) ≡ t → cond t (f room ts) (k room ts) ≡ Err e → Blames whole (choose_at begins f k) room ts e
+      go true i h =
+          let u = a.blames ts e (enters_x _ i n) h in
+          record {
+            front = u.front;
+            wrong = u.wrong;
+            split = u.split;
+            size = u.size;
+            begun = inl u.begun;
+            more = u.more;
+            fits = u.fits;
+            begins = u.begins;
+            stuck = x_stuck u.front u.wrong e.0 (subst (λ l. meets begins (next l) ≡ true) u.split i) u.stuck;
+            further = at_head (Further g e.0 u.front) (Further whole e.0 u.front) (λ c s. x_further e.0 u.front c s) u.wrong u.further;
+          }
+      go false i h =
+          let u = b.blames ts e (enters_y _ i n) h in
+          record {
+            front = u.front;
+            wrong = u.wrong;
+            split = u.split;
+            size = u.size;
+            begun = inr u.begun;
+            more = u.more;
+            fits = u.fits;
+            begins = u.begins;
+            stuck = y_stuck u.front u.wrong e.0 (subst (λ l. meets begins (next l) ≡ false) u.split i) u.stuck;
+            further = at_head (Further d e.0 u.front) (Further whole e.0 u.front) (λ c s. y_further e.0 u.front c s) u.wrong u.further;
+          }
+
+    choose_laws : Laws whole (see_either see_x see_y) (choose_at begins f k) room
+    choose_laws = record { again = λ M. choose_again M (a.again M) (b.again M); take = choose_take; blames = choose_blames }
+
+  pub choose_in_keeps : (m : Aspect) (room : ℕ) → Keeps m g see_x f room → Keeps m d see_y k room → Keeps m (either_in g d E) (see_either see_x see_y) (choose_at begins f k) room
+  choose_in_keeps again_only room a b = choose_again room a b
+  choose_in_keeps all_laws room a b = choose_laws room a b
+
+pub choose_keeps : {X Y V : Type 0} (g : Form X) (see_x : X → V) (d : Form Y) (see_y : Y → V) (begins : Symbol → Bool) (f k : StepOf V)
+    → ((x : X) (rest : List Symbol) → g.Stops x (next rest) → meets begins (next (g.spell x ++ rest)) ≡ true) → ((y : Y) (rest : List Symbol) → d.Stops y (next rest) → meets begins (next (d.spell y ++ rest)) ≡ false)
+    → ((o : Option Symbol) → meets begins o ≡ true → g.Enters o) → ((o : Option Symbol) → meets begins o ≡ false → d.Enters o)
+    → (m : Aspect) (room : ℕ) → Keeps m g see_x f room → Keeps m d see_y k room → Keeps m (either g d) (see_either see_x see_y) (choose_at begins f k) room
+choose_keeps g see_x d see_y begins f k first second enters_x enters_y m room a b =
+    choose_in_keeps g see_x d see_y begins f k first second (λ o. Unit {0}) (λ o e n. enters_x o e) (λ o e n. enters_y o e) m room a b
+
+-- ---- a first side that never begins
+
+module _ {X Y V : Type 0} (g : Form X) (see_x : X → V) (d : Form Y) (see_y : Y → V) (begins : Symbol → Bool) (f k : StepOf V)
+    (never : (o : Option Symbol) → meets begins o ≡ false) (none : (x : X) (M : ℕ) → g.Fits x M → ⊥) (enters_y : (o : Option Symbol) → d.Enters o) where
+  never_again : (M : ℕ) → AgainAt d see_y k M → AgainAt (either g d) (see_either see_x see_y) (choose_at begins f k) M
+  never_again M b = record { again = each } where
+    each : (z : X ⊎ Y) → FitsEither g d z M → (rest : List Symbol) → StopsEither g d z (next rest) → choose_at begins f k M (spell_either g d z ++ rest) ≡ Ok (see_either see_x see_y z, rest)
+    each (inl x) h rest s = absurd (none x M h)
+    each (inr y) h rest s = rw (never (next (d.spell y ++ rest))) (b.again y h rest s)
+
+  never_is : (M : ℕ) (ts : List Symbol) → choose_at begins f k M ts ≡ k M ts
+  never_is M ts = rw (never (next ts)) refl
+
+  never_laws : (room : ℕ) → Laws d see_y k room → Laws (either g d) (see_either see_x see_y) (choose_at begins f k) room
+  never_laws room b = record {
+    again = λ M. never_again M (b.again M);
+    take = λ ts v n e. let t = b.take ts v (enters_y _) (sym (never_is room ts) ∙ e) in record { part = inr t.part; seen = t.seen; parts = t.parts; fits = t.fits; stops = t.stops };
+    blames = λ ts e n h.
+        let u = b.blames ts e (enters_y _) (sym (never_is room ts) ∙ h) in
         record {
           front = u.front;
           wrong = u.wrong;
@@ -89,12 +145,17 @@ module _ {X Y V : Type 0} (g : Form X) (see_x : X → V) (d : Form Y) (see_y : Y
           more = u.more;
           fits = u.fits;
           begins = u.begins;
-          stuck = y_stuck u.front u.wrong e.0 (subst (λ l. meets begins (next l) ≡ false) u.split i) u.stuck;
+          stuck = at_head (Stuck k room e.0 u.front) (Stuck (choose_at begins f k) room e.0 u.front) (λ c s. record { fails = λ M r more. never_is M (u.front ++ (c ∷ more)) ∙ s.fails M r more }) u.wrong u.stuck;
           further = at_head (Further d e.0 u.front) (Further (either g d) e.0 u.front) (λ c s. y_further e.0 u.front c s) u.wrong u.further;
-        }
+        };
+  } where
+    y_further : (why : Why) (front : List Symbol) (c : Symbol) → Further d why front c → Further (either g d) why front c
+    y_further expected front c u = tt
+    y_further deep front c u = (inr u.0, u.1, u.2, u.3, u.4)
 
-  pub choose_laws : Laws (either g d) (see_either see_x see_y) (choose_at begins f k) room
-  choose_laws = record { again = choose_again; take = λ ts v n e. choose_take ts v e; blames = λ ts e n h. choose_blames ts e h }
+  pub never_keeps : (m : Aspect) (room : ℕ) → Keeps m d see_y k room → Keeps m (either g d) (see_either see_x see_y) (choose_at begins f k) room
+  never_keeps again_only room b = never_again room b
+  never_keeps all_laws room b = never_laws room b
 
 -- ---- nothing: the other side of what may be left out
 
@@ -105,5 +166,9 @@ module _ {V : Type 0} (v : V) (P : Option Symbol → Type 0) where
   give_take : (room : ℕ) (ts : List Symbol) (w : V × List Symbol) → P (next ts) → give v room ts ≡ Ok w → Took (nothing P) (λ u. v) room ts w
   give_take room ts w n e = subst (λ y. Took (nothing P) (λ u. v) room ts y) (ok_is (v, ts) w e) (record { part = tt; seen = refl; parts = refl; fits = tt; stops = n })
 
-  pub give_laws : (room : ℕ) → Laws (nothing P) (λ u. v) (give v) room
-  give_laws room = record { again = λ M u h rest s. refl; take = give_take room; blames = λ ts e n h. absurd cc }
+  give_laws : (room : ℕ) → Laws (nothing P) (λ u. v) (give v) room
+  give_laws room = record { again = λ M. record { again = λ u h rest s. refl }; take = give_take room; blames = λ ts e n h. absurd cc }
+
+  pub give_keeps : (m : Aspect) (room : ℕ) → Keeps m (nothing P) (λ u. v) (give v) room
+  give_keeps again_only room = record { again = λ u h rest s. refl }
+  give_keeps all_laws room = give_laws room

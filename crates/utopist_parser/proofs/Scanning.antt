@@ -18,7 +18,7 @@ use Rattle.utopist_lexer.specs.Scanning.{Scan, place_of, tok, IsNext, IsEnd, IsF
 use Rattle.utopist_lexer.proofs.Leads.{spells_something}
 use Rattle.utopist_parser.specs.Symbols.{symbol_at, symbol_of, symbol, symbols}
 use Rattle.utopist_parser.specs.Views.{end_at, TokensOf}
-use Rattle.utopist_parser.proofs.Fixed.{same_kind-true, same_kind-refl}
+use Rattle.utopist_parser.proofs.SameKind.{same_kind-true, same_kind-refl}
 
 -- what was read, with each reading of what is left behind it, is a reading of the text
 pub record ScanSoFar (text : List ℕ) (s : Scan) (items : List Token) : Type 0 where

@@ -1,51 +1,51 @@
--- Where the loops begin: the first name of a list, the bracket before the items, the first concept, the first compute statement.
-use Rattle.std.proofs.Common.{◌≡◌, ◌<◌, true, false, List, [], ◌∷◌, length, Ok, refl, sym, ◌∙◌, arith}
-use Rattle.utopist_parser.specs.declared.stop.Stop.{Stop}
-use Rattle.utopist_parser.specs.declared.stop.Stop.TheVariants as stop
+-- Where the loops begin, and how they go on where a view shows what was read.
+use Rattle.std.proofs.Common.{◌≡◌, ◌<◌, Bool, true, List, [], ◌∷◌, ◌++◌, length, map, Ok, refl, sym, ap, subst, ◌∙◌, arith}
+use Rattle.std.proofs.lemmas.List.{map-append}
+use Rattle.utopist_lexer.specs.declared.mark.Mark.{Mark}
 use Rattle.utopist_lexer.specs.declared.mark.Mark.TheVariants as marks
-use Rattle.utopist_lexer.specs.declared.token.Kind.TheVariants as kinds
-use Rattle.utopist_parser.specs.declared.tree.Concept.{Concept}
-use Rattle.utopist_parser.specs.declared.tree.Compute.{Compute}
-use Rattle.utopist_syntax.specs.Named.{Named}
+use Rattle.utopist_parser.specs.declared.stop.Stop.{Stop}
 use Rattle.utopist_parser.specs.Symbols.{Symbol}
-use Rattle.utopist_parser.specs.Steps.{next, meets, repeat_at}
-use Rattle.utopist_parser.specs.Reading.{fixed_at, name_at, is_comma, next_name_at, names_at, begins_item, item_at, items_at, begins_concept, concept_at, concepts_at, begins_compute, compute_at, computes_at}
+use Rattle.utopist_parser.specs.Steps.{Reading, ReadOf, StepOf, next, meets, repeat_fuel}
+use Rattle.utopist_parser.specs.Single.{is_mark, mark_at}
+use Rattle.utopist_parser.specs.Lists.{next_at, separated_at}
+use Rattle.utopist_syntax.specs.FileTree.{ItemTree}
+use Rattle.utopist_parser.specs.ReadingFile.{begins_item, item_at, items_at}
 use Rattle.utopist_parser.specs.Answers.{Fails}
-use Rattle.utopist_parser.proofs.Loops.{SoFar, with_front-nil, first_part, no_first_part, no_part}
+use Rattle.utopist_parser.proofs.Loops.{SoFar, fails_on, with_front-nil, goes_on, first_part}
 
-pub names_start : (ts : List Symbol) (n : Named) (rest : List Symbol) → name_at 0 ts ≡ Ok (n, rest) → SoFar is_comma next_name_at 0 (n ∷ []) rest (names_at 0 ts)
-unfolding names_at
-names_start ts n rest e = record { fuel = length rest; enough = omega arith; gives = rw e refl }
+module _ {V : Type 0} (separator : Mark) (f : StepOf V) where
+  -- parts with separators so far, of all that are read
+  abbrev pub Separated : List V → List Symbol → List Symbol → Type 0
+  Separated front rest ts = SoFar (is_mark separator) (next_at separator f 63) front rest (separated_at separator f 63 ts)
 
-pub no_first_name : (e : Stop) (ts : List Symbol) → Fails e (name_at 0 ts) → Fails e (names_at 0 ts)
-unfolding names_at
-no_first_name stop.NoMem ts h = tt
-no_first_name (stop.Expected left) ts h = rw h refl
+  -- the first part
+  pub separated_starts : (ts : List Symbol) (v : V) (rest : List Symbol) → f 63 ts ≡ Ok (v, rest) → Separated (v ∷ []) rest ts
+  separated_starts ts v rest e = record { fuel = length rest; enough = omega arith; gives = rw e refl }
 
-pub items_start : (ts rest : List Symbol) → fixed_at (kinds.Mark marks.OpenRound) 0 ts ≡ Ok (tt, rest) → SoFar begins_item item_at 0 [] rest (items_at 0 ts)
+  -- the list of the first part alone, as it was pushed
+  pub separated_first : (ts : List Symbol) (v : V) (rest : List Symbol) (none one : List V) → none ≡ [] → one ≡ none ++ v ∷ [] → f 63 ts ≡ Ok (v, rest) → Separated one rest ts
+  separated_first ts v rest none one empty pushed e =
+      subst (λ (x : List V). Separated x rest ts) (sym (pushed ∙ ap (λ (l : List V). l ++ v ∷ []) empty)) (separated_starts ts v rest e)
+
+  -- no first part
+  pub separated_fails : (e : Stop) (ts : List Symbol) → Fails e (f 63 ts) → Fails e (separated_at separator f 63 ts)
+  separated_fails e ts h = fails_on e (f 63 ts) (separated_at separator f 63 ts) (λ x i. rw i refl) h
+
+module _ {X V : Type 0} (view : X → V) (begins : Symbol → Bool) (read : ReadOf V) where
+  -- one more part, as it was pushed
+  pub seen_on : (found more : List X) (x : X) (ts rest : List Symbol) (total : Reading (List V)) → more ≡ found ++ x ∷ [] → true ≡ meets begins (next ts) → read ts ≡ Ok (view x, rest) → length rest < length ts → SoFar begins read (map view found) ts total
+      → SoFar begins read (map view more) rest total
+  seen_on found more x ts rest total pushed starts e shorter so_far =
+      subst (λ (l : List V). SoFar begins read l rest total) (sym (ap (map view) pushed ∙ map-append view found (x ∷ []))) (goes_on begins read (map view found) ts (view x) rest total starts e shorter so_far)
+
+  -- the first part, as it was pushed
+  pub seen_first : (empty found : List X) (x : X) (ts rest : List Symbol) → empty ≡ [] → found ≡ empty ++ x ∷ [] → true ≡ meets begins (next ts) → read ts ≡ Ok (view x, rest) → length rest < length ts → SoFar begins read (map view found) rest (repeat_fuel begins read (length ts) ts)
+  seen_first empty found x ts rest none_yet pushed starts e shorter =
+      subst (λ (l : List V). SoFar begins read l rest (repeat_fuel begins read (length ts) ts)) (sym (ap (map view) (pushed ∙ ap (λ (l : List X). l ++ x ∷ []) none_yet))) (first_part begins read ts (view x) rest starts e shorter)
+
+-- the bracket before the items
+pub items_start : (seen : List ItemTree) (ts rest : List Symbol) → seen ≡ [] → mark_at marks.OpenRound 63 ts ≡ Ok (tt, rest) → SoFar begins_item (item_at 63) seen rest (items_at 63 ts)
 unfolding items_at
-items_start ts rest e = record { fuel = length rest; enough = omega arith; gives = with_front-nil (repeat_at begins_item item_at 0 rest) ∙ sym (rw e refl) }
-
-pub concepts_start : (ts : List Symbol) (c : Concept) (rest : List Symbol) → true ≡ meets begins_concept (next ts) → concept_at 0 ts ≡ Ok (c, rest) → length rest < length ts → SoFar begins_concept concept_at 0 (c ∷ []) rest (concepts_at 0 ts)
-unfolding concepts_at
-concepts_start ts c rest starts e shorter = first_part begins_concept concept_at 0 ts c rest starts e shorter
-
-pub no_first_concept : (e : Stop) (ts : List Symbol) → true ≡ meets begins_concept (next ts) → Fails e (concept_at 0 ts) → Fails e (concepts_at 0 ts)
-unfolding concepts_at
-no_first_concept e ts starts h = no_first_part begins_concept concept_at 0 e ts starts h
-
-pub no_concepts : (ts : List Symbol) → false ≡ meets begins_concept (next ts) → concepts_at 0 ts ≡ Ok ([], ts)
-unfolding concepts_at
-no_concepts ts stops = no_part begins_concept concept_at 0 ts stops
-
-pub computes_start : (ts : List Symbol) (c : Compute) (rest : List Symbol) → true ≡ meets begins_compute (next ts) → compute_at 0 ts ≡ Ok (c, rest) → length rest < length ts → SoFar begins_compute compute_at 0 (c ∷ []) rest (computes_at 0 ts)
-unfolding computes_at
-computes_start ts c rest starts e shorter = first_part begins_compute compute_at 0 ts c rest starts e shorter
-
-pub no_first_compute : (e : Stop) (ts : List Symbol) → true ≡ meets begins_compute (next ts) → Fails e (compute_at 0 ts) → Fails e (computes_at 0 ts)
-unfolding computes_at
-no_first_compute e ts starts h = no_first_part begins_compute compute_at 0 e ts starts h
-
-pub no_computes : (ts : List Symbol) → false ≡ meets begins_compute (next ts) → computes_at 0 ts ≡ Ok ([], ts)
-unfolding computes_at
-no_computes ts stops = no_part begins_compute compute_at 0 ts stops
+items_start seen ts rest none_yet e =
+    subst (λ (l : List ItemTree). SoFar begins_item (item_at 63) l rest (items_at 63 ts)) (sym none_yet)
+    (record { fuel = length rest; enough = omega arith; gives = with_front-nil (repeat_fuel begins_item (item_at 63) (length rest) rest) ∙ sym (rw e refl) })

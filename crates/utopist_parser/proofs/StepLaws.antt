@@ -34,10 +34,10 @@ pub record Form (X : Type 0) : Type 1 where
 pub record Stuck {V : Type 0} (f : StepOf V) (room : ℕ) (why : Why) (front : List Symbol) (c : Symbol) : Type 0 where
   pub fails : (M : ℕ) → Reaches why room M → (more : List Symbol) → f M (front ++ (c ∷ more)) ≡ Err (why, suc (length more))
 
--- what is too deep goes on without a limit
+-- what is too deep goes on where there is more room
 abbrev pub Further : {X : Type 0} → Form X → Why → List Symbol → Symbol → Type 0
 Further g expected front c = Unit {0}
-Further {X} g deep front c = (x : X) × (more : List Symbol) × (g.spell x ≡ front ++ (c ∷ more))
+Further {X} g deep front c = (x : X) × (more : List Symbol) × (g.spell x ≡ front ++ (c ∷ more)) × (M : ℕ) × g.Fits x M
 
 -- what was read is a part
 pub record Took {X V : Type 0} (g : Form X) (see : X → V) (room : ℕ) (ts : List Symbol) (v : V × List Symbol) : Type 0 where
@@ -60,10 +60,31 @@ pub record Blames {X V : Type 0} (g : Form X) (f : StepOf V) (room : ℕ) (ts : 
   pub stuck : AtHead wrong (Stuck f room fault.0 front)
   pub further : AtHead wrong (Further g fault.0 front)
 
+-- each part that fits is read again, whatever stands behind that stops it
+pub record AgainAt {X V : Type 0} (g : Form X) (see : X → V) (f : StepOf V) (M : ℕ) : Type 0 where
+  pub again : (x : X) → g.Fits x M → (rest : List Symbol) → g.Stops x (next rest) → f M (g.spell x ++ rest) ≡ Ok (see x, rest)
+
 pub record Laws {X V : Type 0} (g : Form X) (see : X → V) (f : StepOf V) (room : ℕ) : Type 0 where
-  pub again : (M : ℕ) (x : X) → g.Fits x M → (rest : List Symbol) → g.Stops x (next rest) → f M (g.spell x ++ rest) ≡ Ok (see x, rest)
+  pub again : (M : ℕ) → AgainAt g see f M
   pub take : (ts : List Symbol) (v : V × List Symbol) → g.Enters (next ts) → f room ts ≡ Ok v → Took g see room ts v
   pub blames : (ts : List Symbol) (e : Fault) → g.Enters (next ts) → f room ts ≡ Err e → Blames g f room ts e
+
+-- ---- the two rounds in which the laws of steps that nest are proved
+
+-- that parts are read again, at one room, and then all laws
+pub data Aspect : Type 0 where
+  again_only : Aspect
+  all_laws : Aspect
+
+-- a step keeps the laws of an aspect at a room
+abbrev pub Keeps : {X V : Type 0} → Aspect → Form X → (X → V) → StepOf V → ℕ → Type 0
+Keeps again_only g see f room = AgainAt g see f room
+Keeps all_laws g see f room = Laws g see f room
+
+-- where all laws are asked for, this part fits
+abbrev pub Fitting : {X : Type 0} → Aspect → Form X → X → ℕ → Type 0
+Fitting again_only g x room = Unit {0}
+Fitting all_laws g x room = g.Fits x room
 
 -- ---- answers of steps
 

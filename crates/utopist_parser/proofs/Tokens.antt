@@ -1,8 +1,9 @@
 -- The laws of one symbol that is wanted, alone and before another step.
 use Rattle.std.proofs.Common.{◌≡◌, ℕ, suc, List, [], ◌∷◌, length, Option, Some, None, Ok, Err, refl, ap, subst, ◌∙◌, arith}
 use Rattle.utopist_parser.specs.Symbols.{Symbol}
-use Rattle.utopist_parser.specs.Steps.{expected, Fault, Reading, token_value, token_at}
-use Rattle.utopist_parser.proofs.StepLaws.{Form, Took, Blames, Laws, failed_is, ok_is}
+use Rattle.utopist_parser.specs.Steps.{expected, Fault, Reading, token_value, token_at, picked, pick_at}
+use Rattle.utopist_parser.proofs.StepLaws.{Form, Took, Blames, Laws, Aspect, again_only, all_laws, Keeps, failed_is, ok_is}
+use Rattle.utopist_parser.proofs.Recast.{same_keeps}
 
 -- a part that is one symbol
 abbrev pub one_symbol : {X : Type 0} → (X → Symbol) → Form X
@@ -41,5 +42,27 @@ module _ {X V : Type 0} (want : Symbol → Option V) (sign : X → Symbol) (see 
       err_at U k = Err (expected, k)
     go (Some u) w i = absurd cc
 
-  pub token_laws : (room : ℕ) → Laws (one_symbol sign) see (token_at want) room
-  token_laws room = record { again = λ M x h rest s. rw (found x) refl; take = λ ts v n e. token_take room ts v e; blames = λ ts e n h. token_blames room ts e h }
+  token_laws : (room : ℕ) → Laws (one_symbol sign) see (token_at want) room
+  token_laws room = record { again = λ M. record { again = λ x h rest s. rw (found x) refl }; take = λ ts v n e. token_take room ts v e; blames = λ ts e n h. token_blames room ts e h }
+
+  pub token_keeps : (m : Aspect) (room : ℕ) → Keeps m (one_symbol sign) see (token_at want) room
+  token_keeps again_only room = (token_laws room).again room
+  token_keeps all_laws room = token_laws room
+
+-- ---- a symbol that is found by what it stands for
+
+module _ {X V : Type 0} (find : Option Symbol → Option V) (sign : X → Symbol) (see : X → V) (nothing : find None ≡ None)
+    (found : (x : X) → find (Some (sign x)) ≡ Some (see x))
+    (finds : (c : Symbol) (v : V) → find (Some c) ≡ Some v → (x : X) × (c ≡ sign x) × (see x ≡ v)) (some_x : X) where
+  abbrev wanted : Symbol → Option V
+  wanted c = find (Some c)
+
+  same_pick : (room : ℕ) (ts : List Symbol) → token_at wanted room ts ≡ pick_at find room ts
+  same_pick room [] = rw nothing refl
+  same_pick room (c ∷ cs) = go (find (Some c)) where
+    go : (o : Option V) → token_value o (c ∷ cs) cs ≡ picked o (c ∷ cs)
+    go None = refl
+    go (Some v) = refl
+
+  pub pick_keeps : (m : Aspect) (room : ℕ) → Keeps m (one_symbol sign) see (pick_at find) room
+  pick_keeps m room = same_keeps (one_symbol sign) see (token_at wanted) (pick_at find) same_pick m room (token_keeps wanted sign see found finds some_x m room)

@@ -1,12 +1,5 @@
 pub mod Symbols
 pub mod Views
-pub mod Grammar
-pub mod Begins
-pub mod Cases
-pub mod Forms
-pub mod Steps
-pub mod Reading
-pub mod Answers
 pub mod Written
 pub mod ExprSymbols
 pub mod ExprTree
@@ -18,3 +11,12 @@ pub mod FileSeen
 pub mod FileNesting
 pub mod Examples
 pub mod FileExample
+pub mod Begins
+pub mod Cases
+pub mod Forms
+pub mod Steps
+pub mod Single
+pub mod Lists
+pub mod ReadingExpr
+pub mod ReadingFile
+pub mod Answers

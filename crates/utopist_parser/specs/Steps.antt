@@ -1,5 +1,5 @@
 -- Reading in steps, for values of any type.
-use Rattle.std.specs.Prelude.{ℕ, zero, suc, Bool, false, if◌then◌else◌, List, [], ◌∷◌, length, Option, Some, None, Result, Ok, Err}
+use Rattle.std.specs.Prelude.{ℕ, zero, suc, Bool, false, if◌then◌else◌, List, [], ◌∷◌, length, drop, Option, Some, None, Result, Ok, Err}
 use Rattle.utopist_parser.specs.Symbols.{Symbol}
 
 -- why a reading fails: no form goes on with the symbol, or none within the limit on nesting
@@ -57,12 +57,34 @@ token_at want room (c ∷ cs) = token_value (want c) (c ∷ cs) cs
 abbrev pub choose_at : {V : Type 0} → (Symbol → Bool) → StepOf V → StepOf V → StepOf V
 choose_at begins f k room ts = if meets begins (next ts) then f room ts else k room ts
 
+-- reading at a room that is settled
+abbrev pub ReadOf : Type 0 → Type 0
+ReadOf V = List Symbol → Reading V
+
 -- {part}, at most so many, where the next symbol says whether one more begins
-unfoldable pub repeat_fuel : {V : Type 0} → (Symbol → Bool) → StepOf V → ℕ → StepOf (List V)
-repeat_fuel begins f zero room ts = Ok ([], ts)
-repeat_fuel begins f (suc k) room ts =
-    if meets begins (next ts) then on_ok (f room ts) (λ p. on_ok (repeat_fuel begins f k room p.1) (λ q. Ok (p.0 ∷ q.0, q.1))) else Ok ([], ts)
+unfoldable pub repeat_fuel : {V : Type 0} → (Symbol → Bool) → ReadOf V → ℕ → ReadOf (List V)
+repeat_fuel begins read zero ts = Ok ([], ts)
+repeat_fuel begins read (suc k) ts =
+    if meets begins (next ts) then on_ok (read ts) (λ p. on_ok (repeat_fuel begins read k p.1) (λ q. Ok (p.0 ∷ q.0, q.1))) else Ok ([], ts)
 
 -- {part}
 abbrev pub repeat_at : {V : Type 0} → (Symbol → Bool) → StepOf V → StepOf (List V)
-repeat_at begins f room ts = repeat_fuel begins f (length ts) room ts
+repeat_at begins f room ts = repeat_fuel begins (f room) (length ts) ts
+
+-- the value of the next symbol, which is wanted
+abbrev pub picked : {V : Type 0} → Option V → List Symbol → Reading V
+picked None ts = Err (expected, length ts)
+picked (Some v) ts = Ok (v, drop 1 ts)
+
+-- one symbol that has a value
+abbrev pub pick_at : {V : Type 0} → (Option Symbol → Option V) → StepOf V
+pick_at find room ts = picked (find (next ts)) ts
+
+-- one level below, where there is room for it; else the next symbol is too deep
+abbrev pub deeper : {V : Type 0} → ℕ → List Symbol → Reading V → Reading V
+deeper zero ts read = Err (deep, length ts)
+deeper (suc room) ts read = read
+
+-- what is one level deeper than its parts
+abbrev pub deeper_at : {V : Type 0} → StepOf V → StepOf V
+deeper_at f room ts = deeper room ts (f room ts)

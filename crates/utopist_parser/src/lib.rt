@@ -1,19 +1,26 @@
 //! Reading a file of concepts and compute statements.
 #![tactic(auto)]
 
+mod binds;
+mod breadth;
 mod compute;
 mod concept;
+mod expr;
 mod file;
+mod forms;
+mod given;
+mod item;
 mod laws;
-mod names;
+mod nodes;
+mod operators;
 mod parser;
+mod parts;
+mod paths;
 mod scan;
 mod step;
 mod stop;
 #[cfg(test)]
 mod tests;
-mod tree;
 
 pub use laws::{examples_are_read_as_they_should, symbols_begin_what_goes_on};
 pub use parser::{ParseFault, parse};
-pub use tree::{Compute, Concept, File, Item};

@@ -1,17 +1,17 @@
 //! From a text to its tree.
 ghost use Rattle.std.specs.Prelude.{◌≡◌, ◌≤◌, length, IfOk, IsSome};
-ghost use Rattle.utopist_parser.specs.Answers.{Gives, FaultOf};
-ghost use Rattle.utopist_parser.specs.Forms.{ParseOf, AllAsk};
-ghost use Rattle.utopist_parser.specs.Reading.{file_at};
-ghost use Rattle.utopist_parser.specs.Symbols.{symbols};
+ghost use Rattle.utopist_syntax.specs.Asks.{AllAsk};
+ghost use Rattle.utopist_syntax.specs.FileTree.{file_tree};
+ghost use Rattle.utopist_parser.specs.Answers.{PlaceOf};
+ghost use Rattle.utopist_parser.specs.Forms.{ParseOf};
 
 use crate::file::file_at;
 use crate::scan::scan;
 use crate::stop::Stop;
-use crate::tree::File;
 use priz_base::{NoMem, Place};
 use std::alloc::Global;
 use utopist_lexer::{LexFault, Token};
+use utopist_syntax::File;
 
 /// Why a text has no tree.
 #[derive(Clone, Copy, Debug, PartialEq, Eq)]
@@ -20,14 +20,16 @@ pub enum ParseFault {
     Lex(LexFault),
     /// This token cannot stand here.
     Expected(Place),
+    /// With this token an expression is nested more than 64 deep.
+    TooDeep(Place),
     NoMem,
 }
 
-/// The tree of a file, in time linear in the text.
+/// The tree of a file, in time linear in the text. What recurses does so at most 64 deep.
 pub fn parse(alloc: Global, text: &str) -> Result<File, ParseFault>
     requires { length text.now ≤ 1048576 }
     ensures tree { ParseOf text.entry.now result }
-    ensures wants { IfOk result AllAsk }
+    ensures wants { IfOk result (λ f. AllAsk (file_tree f)) }
 {
     let (tokens, fault) = match scan(alloc, text) {
         Ok(found) => found,
@@ -35,20 +37,27 @@ pub fn parse(alloc: Global, text: &str) -> Result<File, ParseFault>
     };
     match file_at(alloc, &tokens) {
         Ok((file, _)) => Ok(file),
-        Err(Stop::Expected(left)) => Err(fault_at(&tokens, left, fault)),
+        Err(Stop::Expected(left)) => match place_at(&tokens, left, fault) {
+            Ok(place) => Err(ParseFault::Expected(place)),
+            Err(fault) => Err(ParseFault::Lex(fault)),
+        },
+        Err(Stop::TooDeep(left)) => match place_at(&tokens, left, fault) {
+            Ok(place) => Err(ParseFault::TooDeep(place)),
+            Err(fault) => Err(ParseFault::Lex(fault)),
+        },
         Err(Stop::NoMem) => Err(ParseFault::NoMem),
     }
 }
 
-// The first wrong token, by how many are left at it; where none is, what follows the tokens is wrong.
-fn fault_at(tokens: &[Token], left: usize, fault: Option<LexFault>) -> ParseFault
+// The place of the first wrong token, by how many are left at it; where none is, what follows the tokens is wrong.
+fn place_at(tokens: &[Token], left: usize, fault: Option<LexFault>) -> Result<Place, LexFault>
     requires within { left ≤ length tokens.now }
     requires some { left ≡ 0 → IsSome fault }
-    ensures { FaultOf tokens.now left fault result }
+    ensures { PlaceOf tokens.now left fault result }
 {
     match (&tokens[tokens.len() - left..], fault) {
-        ([first, ..], _) => ParseFault::Expected(first.place()),
-        ([], Some(fault)) => ParseFault::Lex(fault),
+        ([first, ..], _) => Ok(first.place()),
+        ([], Some(fault)) => Err(fault),
         ([], None) => unreachable!(),
     }
 }

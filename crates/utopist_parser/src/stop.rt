@@ -10,6 +10,8 @@ pub enum Stop {
     NoMem,
     /// How many tokens are left at the first wrong one.
     Expected(usize),
+    /// How many tokens are left at the first that is nested too deep.
+    TooDeep(usize),
 }
 
 impl From<AllocError> for Stop {

@@ -2,6 +2,7 @@ pub mod Named
 pub mod Tree
 pub mod View
 pub mod FileTree
+pub mod Asks
 pub mod PathText
 pub mod Round
 pub mod ExprText

@@ -1,5 +1,6 @@
 use Rattle.std.proofs.Common.{◌+◌, ◌-◌, ◌^◌, ◌≡◌, [], ◌++◌, length, min, ap, arith}
 use Rattle.std.proofs.lemmas.Result.{err_from_is_err_and}
+use Rattle.utopist_syntax.specs.FileTree.{concept_tree}
 use Rattle.concept_unfold.specs.declared.fault.Rule.TheVariants as rule
 use Rattle.concept_unfold.specs.Rows.{AllHold}
 use Rattle.concept_unfold.specs.ConceptRules.{items_rows, concept_rows}
@@ -11,7 +12,7 @@ use Rattle.concept_unfold.proofs.check.check_concept.Goals as goal
 pub returns-in_err-expect_at_most-clause-rules : goal.returns-in_err-expect_at_most-clause-rules
 returns-in_err-expect_at_most-clause-rules c =
     let earlier = c.args.checked.now.names in
-    let x = c.args.concept.now in
+    let x = concept_tree c.args.concept.now in
     let count : c.saturating_add-count.result ≡ min (length earlier + 1) (2 ^ 64 - 1) = omega (arith, ap length c.names.ensures) in
     let p = err_from_is_err_and c.from_residual.result c.from_residual.ensures.1 in
     rw (p.1, p.2)
@@ -21,7 +22,7 @@ returns-in_err-expect_at_most-clause-rules c =
 pub returns-in_err-expect_new-clause-rules : goal.returns-in_err-expect_new-clause-rules
 returns-in_err-expect_new-clause-rules c =
     let earlier = c.args.checked.now.names in
-    let x = c.args.concept.now in
+    let x = concept_tree c.args.concept.now in
     let e = c.in_err-expect_new.field-0.0 in
     let count : c.saturating_add-count.result ≡ min (length earlier + 1) (2 ^ 64 - 1) = omega (arith, ap length c.names.ensures) in
     let p = err_from_is_err_and c.from_residual-in_err-expect_new.result c.from_residual-in_err-expect_new.ensures.1 in
@@ -32,7 +33,7 @@ returns-in_err-expect_new-clause-rules c =
 pub returns-in_err-variables-clause-rules : goal.returns-in_err-variables-clause-rules
 returns-in_err-variables-clause-rules c =
     let earlier = c.args.checked.now.names in
-    let x = c.args.concept.now in
+    let x = concept_tree c.args.concept.now in
     let e = c.in_err-variables.field-0.0 in
     let count : c.saturating_add-count.result ≡ min (length earlier + 1) (2 ^ 64 - 1) = omega (arith, ap length c.names.ensures) in
     let new : AllHold (concept_name earlier x) = rw c.names-2.ensures at c.in_ok-expect_new.ensures in
@@ -49,7 +50,7 @@ add-requires c =
 pub returns-clause-rules : goal.returns-clause-rules
 returns-clause-rules c =
     let earlier = c.args.checked.now.names in
-    let x = c.args.concept.now in
+    let x = concept_tree c.args.concept.now in
     let count : c.saturating_add-count.result ≡ min (length earlier + 1) (2 ^ 64 - 1) = omega (arith, ap length c.names.ensures) in
     let new : AllHold (concept_name earlier x) = rw c.names-2.ensures at c.in_ok-expect_new.ensures in
     passed_all (concept_rows earlier x) (items_rows [] [] x.items) (at_items earlier x (c.in_ok-expect_at_most.ensures (length earlier + 1) count) new)

@@ -1,17 +1,18 @@
-use Rattle.std.proofs.Common.{◌+◌, ◌<◌, List, length, drop, refl, arith}
+use Rattle.std.proofs.Common.{◌+◌, ◌<◌, List, length, map, drop, refl, arith}
 use Rattle.std.proofs.lemmas.Result.{err_from_is_err_and}
-use Rattle.utopist_parser.specs.declared.tree.Compute.{Compute}
+use Rattle.utopist_syntax.specs.declared.compute.Compute.{Compute}
+use Rattle.utopist_syntax.specs.FileTree.{concept_tree}
 use Rattle.concept_unfold.specs.Rows.{Row}
 use Rattle.concept_unfold.specs.ConceptRules.{compute_rows, computes_rows}
 use Rattle.concept_unfold.proofs.Passing.{all_left, at_next, at_end, passed_more, fails_next, some_at}
 use Rattle.concept_unfold.proofs.check.check_each_compute.Goals as goal
 
 pub loop-which-init : goal.loop-which-init
-loop-which-init c = all_left (computes_rows c.args.file.now.concepts 0 c.args.file.now.computes)
+loop-which-init c = all_left (computes_rows (map concept_tree c.args.file.now.concepts) 0 c.args.file.now.computes)
 
 pub loop-which-preserved : goal.loop-which-preserved
 loop-which-preserved c =
-    let cs = c.args.file.now.concepts in
+    let cs = map concept_tree c.args.file.now.concepts in
     let ws = c.args.file.now.computes in
     let i = c.loop-which.which in
     let rows : List Compute → List Row = computes_rows cs i in
@@ -22,7 +23,7 @@ loop-which-preserved c =
 
 pub returns-in_err-check_compute : goal.returns-in_err-check_compute
 returns-in_err-check_compute c =
-    let cs = c.args.file.now.concepts in
+    let cs = map concept_tree c.args.file.now.concepts in
     let ws = c.args.file.now.computes in
     let i = c.loop-which.which in
     let rows : List Compute → List Row = computes_rows cs i in
@@ -36,6 +37,6 @@ returns-in_err-check_compute c =
 
 pub returns : goal.returns
 returns c =
-    let cs = c.args.file.now.concepts in
+    let cs = map concept_tree c.args.file.now.concepts in
     let ws = c.args.file.now.computes in
     at_end (computes_rows cs c.loop-which.which) (computes_rows cs 0 ws) ws c.loop-which.which (omega arith) refl c.loop-which.invariant

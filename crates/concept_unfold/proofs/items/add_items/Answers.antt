@@ -1,5 +1,6 @@
-use Rattle.std.proofs.Common.{ap, ◌∙◌}
+use Rattle.std.proofs.Common.{map, ap, ◌∙◌}
 use Rattle.statement_set.specs.Problem.{Task}
+use Rattle.utopist_syntax.specs.FileTree.{item_tree}
 use Rattle.concept_unfold.specs.Declarations.{all_variables}
 use Rattle.concept_unfold.specs.Unfolded.{statements_of}
 use Rattle.std.specs.List.{flat_map}
@@ -10,7 +11,7 @@ pub add_item-requires-clause-rules : goal.add_item-requires-clause-rules
 add_item-requires-clause-rules c =
     let f = c.loop-item.invariant.follows in
     let vars = c.loop-item.problem.names in
-    item_behind_fewer f.0 vars vars c.item-item.result f.1 (here_follows c.args.items.now c.loop-item.item-index c.item-item.result c.loop-item-test.true c.item-item.is f.0 vars f.2)
+    item_behind_fewer f.0 vars vars (item_tree c.item-item.result) f.1 (here_follows c.args.items.now c.loop-item.item-index c.item-item.result c.loop-item-test.true c.item-item.is f.0 vars f.2)
 
 pub loop-item-preserved : goal.loop-item-preserved
 loop-item-preserved c =
@@ -24,11 +25,11 @@ loop-item-preserved c =
     let statements = ap (λ (p : Task). p.statements) e in
     let f = c.loop-item.invariant.follows in
     let known = here_follows items i x c.loop-item-test.true c.item-item.is f.0 old.names f.2 in
-    let all = all_variables items in
+    let all = all_variables (map item_tree items) in
     record {
       follows = follows_more items i x c.loop-item-test.true c.item-item.is f.0 old.names new.names f.1 f.2 names;
       variables = variables_more items i x c.loop-item-test.true c.item-item.is old.names new.names all c.loop-item.invariant.variables names;
-      statements = statements_more items i x c.loop-item-test.true c.item-item.is f.0 old.names all old.statements new.statements (flat_map (statements_of all) items) c.loop-item.invariant.variables known c.loop-item.invariant.statements statements;
+      statements = statements_more items i x c.loop-item-test.true c.item-item.is f.0 old.names all old.statements new.statements (flat_map (statements_of all) (map item_tree items)) c.loop-item.invariant.variables known c.loop-item.invariant.statements statements;
       room = room_more items i x c.loop-item-test.true c.item-item.is old.names old.statements new.statements c.loop-item.invariant.room statements;
       givens = ap (λ (p : Task). p.givens) e ∙ c.loop-item.invariant.givens;
       wants = ap (λ (p : Task). p.wants) e ∙ c.loop-item.invariant.wants;

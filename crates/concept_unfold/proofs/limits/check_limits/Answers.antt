@@ -1,6 +1,7 @@
-use Rattle.std.proofs.Common.{◌++◌, length}
+use Rattle.std.proofs.Common.{◌++◌, length, map}
 use Rattle.std.specs.List.{sum_by}
 use Rattle.std.proofs.lemmas.Result.{err_from_is_err_and}
+use Rattle.utopist_syntax.specs.FileTree.{item_tree}
 use Rattle.concept_unfold.specs.Declarations.{all_variables}
 use Rattle.concept_unfold.specs.UnfoldingRules.{size_of, statements_in, limit_rows}
 use Rattle.concept_unfold.proofs.Passing.{fails_next, decides_last}
@@ -10,7 +11,7 @@ use Rattle.concept_unfold.proofs.limits.check_limits.Goals as goal
 pub returns-in_err-expect_at_most : goal.returns-in_err-expect_at_most
 returns-in_err-expect_at_most c =
     let x = c.args.compute.now in
-    let items = c.args.items.now in
+    let items = map item_tree c.args.items.now in
     let p = err_from_is_err_and c.from_residual.result c.from_residual.ensures.1 in
     rw (p.1, p.2)
     (fails_next (limit_rows x items) (path_count x items) (variable_count x items ++ (size_count x items ++ statement_count x items)) (at_paths x items)
@@ -19,7 +20,7 @@ returns-in_err-expect_at_most c =
 pub returns-in_err-expect_at_most-2 : goal.returns-in_err-expect_at_most-2
 returns-in_err-expect_at_most-2 c =
     let x = c.args.compute.now in
-    let items = c.args.items.now in
+    let items = map item_tree c.args.items.now in
     let n = length (all_variables items) in
     let p = err_from_is_err_and c.from_residual-in_err-expect_at_most-2.result c.from_residual-in_err-expect_at_most-2.ensures.1 in
     rw (p.1, p.2)
@@ -29,7 +30,7 @@ returns-in_err-expect_at_most-2 c =
 pub returns-in_err-expect_at_most-3 : goal.returns-in_err-expect_at_most-3
 returns-in_err-expect_at_most-3 c =
     let x = c.args.compute.now in
-    let items = c.args.items.now in
+    let items = map item_tree c.args.items.now in
     let n = length (all_variables items) in
     let variables = c.count-counts.ensures.variables in
     let p = err_from_is_err_and c.from_residual-in_err-expect_at_most-3.result c.from_residual-in_err-expect_at_most-3.ensures.1 in
@@ -40,7 +41,7 @@ returns-in_err-expect_at_most-3 c =
 pub returns : goal.returns
 returns c =
     let x = c.args.compute.now in
-    let items = c.args.items.now in
+    let items = map item_tree c.args.items.now in
     let n = length (all_variables items) in
     let variables = c.count-counts.ensures.variables in
     decides_last (limit_rows x items) (statement_count x items)

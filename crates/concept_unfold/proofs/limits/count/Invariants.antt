@@ -1,13 +1,14 @@
 use Rattle.std.proofs.Common.{◌≡◌, ◌-◌, ◌^◌, length, take, min}
 use Rattle.std.specs.List.{sum_by}
-use Rattle.utopist_parser.specs.declared.tree.Item.{Item}
+use Rattle.utopist_syntax.specs.declared.item.Item.{Item}
+use Rattle.utopist_syntax.specs.FileTree.{item_tree}
 use Rattle.concept_unfold.specs.Declarations.{variables}
 use Rattle.concept_unfold.specs.UnfoldingRules.{size_of, statements_in}
 use Rattle.concept_unfold.proofs.limits.count.Given as goal
 
 abbrev pub invariant-loop-item : goal.invariant-loop-item
 invariant-loop-item l = record {
-  variables : l.variables ≡ min (sum_by (λ (i : Item). length (variables i)) (take l.item-index l.items)) (2 ^ 64 - 1);
-  size : l.size ≡ min (sum_by size_of (take l.item-index l.items)) (2 ^ 64 - 1);
-  statements : l.statements ≡ min (sum_by statements_in (take l.item-index l.items)) (2 ^ 64 - 1);
+  variables : l.variables ≡ min (sum_by (λ (i : Item). length (variables (item_tree i))) (take l.item-index l.items)) (2 ^ 64 - 1);
+  size : l.size ≡ min (sum_by (λ (i : Item). size_of (item_tree i)) (take l.item-index l.items)) (2 ^ 64 - 1);
+  statements : l.statements ≡ min (sum_by (λ (i : Item). statements_in (item_tree i)) (take l.item-index l.items)) (2 ^ 64 - 1);
 }

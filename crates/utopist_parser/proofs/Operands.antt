@@ -1,0 +1,122 @@
+-- {OPERATOR operand} read operand by operand, as a loop does.
+use Rattle.std.proofs.Common.{◌≡◌, ℕ, zero, suc, true, false, ◌+◌, ◌-◌, ◌<◌, ◌≤◌, max, List, [], ◌∷◌, length, Option, Some, None, Ok, Err, refl, sym, ap, subst, ◌∙◌, arith, drop, take}
+use Rattle.std.specs.Prelude.{nat_le}
+use Rattle.std.proofs.lemmas.List.{take_rest, length-map}
+use Rattle.body_lang.specs.declared.op.Op.{Op}
+use Rattle.utopist_lexer.specs.declared.token.Token.{Token}
+use Rattle.utopist_syntax.specs.Tree.{Tree, op}
+use Rattle.utopist_parser.specs.declared.breadth.Breadth.{Breadth}
+use Rattle.utopist_parser.specs.declared.stop.Stop.{Stop}
+use Rattle.utopist_parser.specs.Symbols.{Symbol, symbol, symbols}
+use Rattle.utopist_parser.specs.Steps.{Reading, ReadOf, Fault, deep, next}
+use Rattle.utopist_parser.specs.ReadingExpr.{Nested, joined, more_at, sign_of, scale_of, levels_within, factor_at, term_at, chain_at}
+use Rattle.utopist_parser.specs.Answers.{Fails}
+use Rattle.utopist_parser.proofs.Loops.{fails_on}
+
+-- the test whether a number is small enough
+at_most : (n m : ℕ) → n ≤ m → nat_le n m ≡ true
+at_most n m h = grind (arith, h)
+
+-- or not
+more_than : (n m : ℕ) → m < n → nat_le n m ≡ false
+more_than n m h = grind (arith, h)
+
+module _ (find : Option Symbol → Option Op) (operand : ReadOf Nested) (room : ℕ) (total : Reading Nested) where
+  -- the operands so far, and those that still come
+  pub record Operands (v : Nested) (rest : List Symbol) : Type 0 where
+    pub fuel : ℕ
+    pub enough : room < fuel + v.1
+    pub gives : total ≡ more_at find operand room fuel v rest
+
+  -- no operator follows, of so many at most
+  ends-at : (fuel : ℕ) (v : Nested) (rest : List Symbol) → find (next rest) ≡ None → more_at find operand room fuel v rest ≡ Ok (v, rest)
+  unfolding more_at
+  ends-at zero v rest e = rw e refl
+  ends-at (suc fuel) v rest e = rw e refl
+
+  -- no operator follows: what was read is all
+  pub ends : (v : Nested) (rest : List Symbol) → None ≡ find (next rest) → Operands v rest → total ≡ Ok (v, rest)
+  ends v rest e s = s.gives ∙ ends-at s.fuel v rest (sym e)
+
+  -- an operator for which there is no room, of so many at most
+  deep-at : (fuel : ℕ) (v : Nested) (rest : List Symbol) (o : Op) → find (next rest) ≡ Some o → room < v.1 → more_at find operand room fuel v rest ≡ Err (deep, length rest)
+  unfolding more_at
+  deep-at zero v rest o e h = rw (e, more_than _ _ h) refl
+  deep-at (suc fuel) v rest o e h = rw (e, more_than _ _ h) refl
+
+  -- an operator for which there is no room
+  pub too_deep : (v : Nested) (rest : List Symbol) (o : Op) → Some o ≡ find (next rest) → room < v.1 → Operands v rest → total ≡ Err (deep, length rest)
+  too_deep v rest o e h s = s.gives ∙ deep-at s.fuel v rest o (sym e) h
+
+  -- an operand fails, of so many at most
+  fails-at : (fuel : ℕ) (v : Nested) (rest : List Symbol) (o : Op) (x : Fault) → room < fuel + v.1 → find (next rest) ≡ Some o → v.1 ≤ room → operand (drop 1 rest) ≡ Err x → more_at find operand room fuel v rest ≡ Err x
+  unfolding more_at
+  fails-at zero v rest o x k i h f = absurd (omega (arith, k, h))
+  fails-at (suc fuel) v rest o x k i h f = rw (i, at_most _ _ h, f) refl
+
+  -- an operand fails, and the whole with it
+  pub fails : (e : Stop) (v : Nested) (rest : List Symbol) (o : Op) (lower : ReadOf Nested) (behind : List Symbol) → operand ≡ lower → behind ≡ drop 1 rest → Some o ≡ find (next rest) → v.1 ≤ room → Fails e (lower behind) → Operands v rest → Fails e total
+  fails e v rest o lower behind same is i h f s = fails_on e (lower behind) total (λ x g. s.gives ∙ fails-at s.fuel v rest o x s.enough (sym i) h ((λ j. same j (sym is j)) ∙ g)) f
+
+  -- one more operator and operand
+  pub goes_on : (v : Nested) (rest : List Symbol) (o : Op) (lower : ReadOf Nested) (behind : List Symbol) (w : Nested) (after : List Symbol) (t : Tree) (n : ℕ) → operand ≡ lower → behind ≡ drop 1 rest → Some o ≡ find (next rest) → v.1 ≤ room → lower behind ≡ Ok (w, after) → t ≡ op o v.0 w.0 → n ≡ suc (max v.1 w.1)
+      → Operands v rest → Operands (t, n) after
+  unfolding more_at
+  goes_on v rest o lower behind w after t n same is i h f tree nest s = subst (λ (x : Nested). Operands x after) (λ j. (sym tree j, sym nest j)) (go s.fuel s.enough s.gives) where
+    read : operand (drop 1 rest) ≡ Ok (w, after)
+    read = (λ j. same j (sym is j)) ∙ f
+
+    go : (fuel : ℕ) → room < fuel + v.1 → total ≡ more_at find operand room fuel v rest → Operands (joined o v w) after
+    go zero k e = absurd (omega (arith, k, h))
+    go (suc fuel) k e = record { fuel = fuel; enough = omega (arith, k); gives = e ∙ rw (sym i, at_most _ _ h, read) refl }
+
+-- factors so far, of a whole term
+abbrev pub Factors : Breadth → ℕ → List Symbol → Nested → List Symbol → Type 0
+Factors b room ts = Operands scale_of (levels_within b room).factor room (term_at b room ts)
+
+-- terms so far, of a whole chain
+abbrev pub Terms : Breadth → ℕ → List Symbol → Nested → List Symbol → Type 0
+Terms b room ts = Operands sign_of (levels_within b room).term room (chain_at b room ts)
+
+-- a term begins with a factor
+pub first_factor : (b : Breadth) (room : ℕ) (ts : List Symbol) (v : Nested) (rest : List Symbol) → factor_at b room ts ≡ Ok (v, rest) → 1 ≤ v.1 → Factors b room ts v rest
+unfolding factor_at term_at
+first_factor b room ts v rest e h = record { fuel = room; enough = omega (arith, h); gives = rw e refl }
+
+-- the first factor fails, and the term with it
+pub no_factor : (b : Breadth) (room : ℕ) (e : Stop) (ts : List Symbol) → Fails e (factor_at b room ts) → Fails e (term_at b room ts)
+unfolding factor_at term_at
+no_factor b room e ts h = fails_on e (factor_at b room ts) (term_at b room ts) (λ x i. rw i refl) h
+
+-- a chain begins with a term
+pub first_term : (b : Breadth) (room : ℕ) (ts : List Symbol) (v : Nested) (rest : List Symbol) → term_at b room ts ≡ Ok (v, rest) → 1 ≤ v.1 → Terms b room ts v rest
+unfolding term_at chain_at
+first_term b room ts v rest e h = record { fuel = room; enough = omega (arith, h); gives = rw e refl }
+
+-- the first term fails, and the chain with it
+pub no_term : (b : Breadth) (room : ℕ) (e : Stop) (ts : List Symbol) → Fails e (term_at b room ts) → Fails e (chain_at b room ts)
+unfolding term_at chain_at
+no_term b room e ts h = fails_on e (term_at b room ts) (chain_at b room ts) (λ x i. rw i refl) h
+
+-- a factor one level below
+pub factor_below : (b : Breadth) (room : ℕ) → 0 < room → (levels_within b room).factor ≡ factor_at b (room - 1)
+unfolding factor_at
+factor_below b zero h = absurd (omega (arith, h))
+factor_below b (suc room) h = let e : room ≡ suc room - 1 = omega arith in subst (λ k. (levels_within b (suc room)).factor ≡ factor_at b k) e refl
+
+-- a term one level below
+pub term_below : (b : Breadth) (room : ℕ) → 0 < room → (levels_within b room).term ≡ term_at b (room - 1)
+unfolding term_at
+term_below b zero h = absurd (omega (arith, h))
+term_below b (suc room) h = let e : room ≡ suc room - 1 = omega arith in subst (λ k. (levels_within b (suc room)).term ≡ term_at b k) e refl
+
+-- the symbols behind the next
+pub symbols_behind : (ts : List Token) → symbols (take (length ts - 1) (drop 1 ts)) ≡ drop 1 (symbols ts)
+symbols_behind ts = ap symbols (take_rest ts 1) ∙ behind ts where
+  behind : (us : List Token) → symbols (drop 1 us) ≡ drop 1 (symbols us)
+  behind [] = refl
+  behind (u ∷ us) = refl
+
+-- as many symbols as tokens
+pub symbols_length : (ts : List Token) → length (symbols ts) ≡ length ts
+symbols_length ts = length-map ts symbol

@@ -1,0 +1,12 @@
+use Rattle.std.proofs.Common.{◌<◌, length}
+use Rattle.utopist_lexer.specs.declared.mark.Mark.TheVariants.{Comma}
+use Rattle.utopist_parser.specs.Symbols.{symbols}
+use Rattle.utopist_parser.specs.ReadingFile.{bind_at}
+use Rattle.utopist_parser.proofs.Starts.{Separated}
+use Rattle.utopist_parser.proofs.binds.separated_binds_at.Given as goal
+
+abbrev pub invariant-parts : goal.invariant-parts
+invariant-parts l = record { gives : Separated Comma bind_at l.found (symbols l.rest) (symbols l.tokens); shorter : length l.rest < length l.tokens }
+
+abbrev pub decreases-parts : goal.decreases-parts
+decreases-parts l = length l.rest

@@ -1,0 +1,12 @@
+use Rattle.std.proofs.Common.{◌<◌, length}
+use Rattle.utopist_lexer.specs.declared.mark.Mark.TheVariants.{Comma}
+use Rattle.utopist_parser.specs.Symbols.{symbols}
+use Rattle.utopist_parser.specs.ReadingFile.{part_at}
+use Rattle.utopist_parser.proofs.Starts.{Separated}
+use Rattle.utopist_parser.proofs.parts.some_parts_at.Given as goal
+
+abbrev pub invariant-parts : goal.invariant-parts
+invariant-parts l = record { gives : Separated Comma part_at l.found (symbols l.rest) (symbols l.tokens); shorter : length l.rest < length l.tokens }
+
+abbrev pub decreases-parts : goal.decreases-parts
+decreases-parts l = length l.rest
