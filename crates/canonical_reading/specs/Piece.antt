@@ -1,0 +1,59 @@
+-- Tokens without their places.
+use Rattle.std.specs.Prelude.{◌≡◌, ℕ, ℤ, pos, negsuc, suc, List, [], ◌∷◌, map, if◌then◌else◌, Bool}
+use Rattle.std.specs.Fmt.{signed_decimal}
+use Rattle.std.specs.Str.{chars}
+use Rattle.utopist_lexer.specs.declared.token.Kind.{Kind}
+use Rattle.utopist_lexer.specs.declared.token.Kind.TheVariants as kinds
+use Rattle.utopist_lexer.specs.declared.word.Word.{Word}
+use Rattle.utopist_lexer.specs.declared.mark.Mark.{Mark}
+use Rattle.utopist_lexer.specs.declared.mark.Mark.TheVariants as marks
+use Rattle.utopist_lexer.specs.Spelling.{word_text, mark_text}
+use Rattle.utopist_lexer.specs.Lexical.{Tok}
+use Rattle.utopist_lexer.specs.Tokens.{Reads}
+use Rattle.utopist_syntax.specs.Named.{Named}
+
+-- what a token is, and its characters
+pub record Piece : Type 0 where
+  pub kind : Kind
+  pub text : List ℕ
+
+-- a token without its place
+abbrev pub piece_of : Tok → Piece
+piece_of t = record { kind = t.kind; text = t.text }
+
+-- a text has just these tokens, each wherever it stands
+abbrev pub HasPieces : List ℕ → List Piece → Type 0
+HasPieces text ps = (ts : List Tok) × Reads text ts × (map piece_of ts ≡ ps)
+
+-- a keyword
+abbrev pub word : Word → Piece
+word w = record { kind = kinds.Word w; text = word_text w }
+
+-- a mark
+abbrev pub mark : Mark → Piece
+mark m = record { kind = kinds.Mark m; text = mark_text m }
+
+-- a name
+abbrev pub name : Named → Piece
+name n = record { kind = kinds.Name; text = chars n.text }
+
+-- a number
+abbrev pub number : ℤ → Piece
+number z = record { kind = kinds.Number z; text = signed_decimal z }
+
+-- $ and a number
+abbrev pub sub : ℤ → Piece
+sub z = record { kind = kinds.Sub z; text = 36 ∷ signed_decimal z }
+
+-- a comma between two of a list
+abbrev pub comma : List Piece
+comma = mark marks.Comma ∷ []
+
+-- a number of any sign: the minus is a token of its own
+abbrev pub signed_pieces : ℤ → List Piece
+signed_pieces (pos n) = number (pos n) ∷ []
+signed_pieces (negsuc n) = mark marks.Minus ∷ number (pos (suc n)) ∷ []
+
+-- pieces that stand only where they are needed
+abbrev pub if_needed_pieces : Bool → List Piece → List Piece
+if_needed_pieces needed ps = if needed then ps else []
