@@ -24,9 +24,13 @@ fn problem_of(alloc: Global, given: bool) -> Result<Problem, NoMem>
         inputs,
         subs,
         output: b,
+        body: None,
     })?;
     if given {
-        problem.add_given(Given { var: a })?;
+        problem.add_given(Given {
+            var: a,
+            value: None,
+        })?;
     }
     problem.add_want(b)?;
     Ok(problem)

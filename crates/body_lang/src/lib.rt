@@ -1,10 +1,27 @@
-//! The words of expressions that programs share: operators, comparisons and kinds of loops.
+//! Bodies: the expressions that give a statement's output, and what they mean.
 #![tactic(auto)]
 
+mod body;
+mod body_fault;
+mod check;
 mod cmp;
+mod equation;
+mod laws;
 mod loop_kind;
 mod op;
+mod run_fault;
+#[cfg(test)]
+mod tests;
 
+pub use body::Body;
+pub use body_fault::BodyFault;
+pub use check::check_body;
 pub use cmp::Cmp;
+pub use equation::Equation;
+pub use laws::{
+    bodies_mean_what_they_should, exact_meaning_ends_in_the_narrow_value,
+    values_are_in_lowest_terms,
+};
 pub use loop_kind::LoopKind;
 pub use op::Op;
+pub use run_fault::RunFault;

@@ -1,21 +1,22 @@
 -- What the rules of concepts say of one compute statement.
 use Rattle.std.proofs.Common.{◌≡◌, ℕ, zero, suc, ◌+◌, ◌<◌, ◌≤◌, Bool, true, false, List, [], ◌∷◌, ◌++◌, length, get_or, map, Some, refl, ap, ◌∙◌, subst}
-use Rattle.std.specs.Prelude.{slice_get}
+use Rattle.std.specs.Prelude.{slice_get, All}
 use Rattle.std.specs.List.{flat_map, sum_by}
 use Rattle.std.specs.Str.{bytes_eq}
 use Rattle.std.proofs.lemmas.Option.{slice_get_read}
-use Rattle.std.proofs.lemmas.List.Elements.{All-contains}
+use Rattle.std.proofs.lemmas.List.Elements.{All-contains, All-nil, All-head, All-tail}
 use Rattle.statement_set.proofs.Lists.{all_left, all_right, contains_at}
 use Rattle.statement_set.specs.Problem.{Task, empty_task}
 use Rattle.utopist_syntax.specs.declared.compute.Compute.{Compute}
 use Rattle.utopist_syntax.specs.FileTree.{ItemTree, ConceptTree, FileTree}
 use Rattle.utopist_syntax.specs.Asks.{AllAsk}
+use Rattle.concept_unfold.specs.Built.{IsBuiltItem, IsBuiltConcept}
 use Rattle.concept_unfold.specs.Paths.{given_paths}
 use Rattle.concept_unfold.specs.Declarations.{all_variables, items_of}
 use Rattle.concept_unfold.specs.Rows.{Row, Holds, AllHold}
 use Rattle.concept_unfold.specs.ConceptRules.{items_rows, concept_rows, concepts_rows, compute_rows, computes_rows, concept_rules}
 use Rattle.concept_unfold.specs.declared.fault.Limit.TheVariants as limit
-use Rattle.concept_unfold.specs.UnfoldingRules.{statements_in, limit_row, limit_rows}
+use Rattle.concept_unfold.specs.UnfoldingRules.{size_of, statements_in, limit_row, limit_rows}
 use Rattle.concept_unfold.specs.Unfolded.{AreKnown, number, given_of, statements_of, problem_from}
 use Rattle.concept_unfold.proofs.Passing.{none_hold, first_holds}
 use Rattle.concept_unfold.proofs.Progress.{known_from_rows}
@@ -40,6 +41,16 @@ items_follow earlier [] name h = none_hold
 items_follow earlier (c ∷ cs) name h =
     let more = earlier ++ c.name.text ∷ [] in
     first_items c cs name (bytes_eq c.name.text name) refl (its_items earlier c (left_hold (concept_rows earlier c) (concepts_rows more cs) h)) (items_follow more cs name (right_hold (concept_rows earlier c) (concepts_rows more cs) h))
+
+first_built : (c : ConceptTree) (cs : List ConceptTree) (name : List ℕ) (t : Bool) → bytes_eq c.name.text name ≡ t → All IsBuiltItem c.items → All IsBuiltItem (items_of cs name) → All IsBuiltItem (items_of (c ∷ cs) name)
+first_built c cs name true e here rest = rw e here
+first_built c cs name false e here rest = rw e rest
+
+-- the items of each concept are built
+pub items_built : (cs : List ConceptTree) (name : List ℕ) → All IsBuiltConcept cs → All IsBuiltItem (items_of cs name)
+items_built [] name h = All-nil IsBuiltItem
+items_built (c ∷ cs) name h =
+    first_built c cs name (bytes_eq c.name.text name) refl (All-head IsBuiltConcept c cs h).1 (items_built cs name (All-tail IsBuiltConcept c cs h))
 
 -- each compute statement follows the rules, behind some number of others
 compute_follows : (cs : List ConceptTree) (ws : List Compute) (before k : ℕ) (w : Compute) → slice_get ws k ≡ Some w → AllHold (computes_rows cs before ws) → (n : ℕ) × AllHold (compute_rows cs n w)
@@ -83,6 +94,11 @@ module _ (w : Compute) (items : List ItemTree) (h : AllHold (limit_rows w items)
   pub few_variables : length (all_variables items) ≤ 1024
   few_variables =
       first_holds (limit_row w limit.Variables 1024 (length (all_variables items))) (size_count w items ++ statement_count w items) after_paths
+
+  pub few_nodes : sum_by size_of items ≤ 262144
+  few_nodes =
+      first_holds (limit_row w limit.Size 262144 (sum_by size_of items)) (statement_count w items)
+      (right_hold (variable_count w items) (size_count w items ++ statement_count w items) after_paths)
 
   pub few_statements : sum_by statements_in items ≤ 4096
   few_statements =

@@ -9,3 +9,8 @@ pub mod Whole
 pub mod Follows
 pub mod Once
 pub mod Stages
+mod Among
+mod FirstPlaces
+mod Faults
+mod BodyTrees
+mod GoodBodies

@@ -69,7 +69,8 @@ stable_at x xs more n false e c rest =
     let later : Contains xs n = ⊎_elim (λ s. absurd (let t = (bytes_eq-Decides n x).1 (sym s) in cc)) (λ h. h) (contains_cases x xs n c) in
     first_is_not x (xs ++ more) n e ∙ ap (λ k. 1 + k) (rest later) ∙ sym (first_is_not x xs n e)
 
-place_stable : (vars more : List (List ℕ)) (n : List ℕ) → Contains vars n → position_or_len (bytes_eq n) (vars ++ more) ≡ position_or_len (bytes_eq n) vars
+-- a name keeps its place where more names follow
+pub place_stable : (vars more : List (List ℕ)) (n : List ℕ) → Contains vars n → position_or_len (bytes_eq n) (vars ++ more) ≡ position_or_len (bytes_eq n) vars
 place_stable [] more n c = absurd (contains_none n c)
 place_stable (x ∷ xs) more n c = stable_at x xs more n (bytes_eq n x) refl c (λ h. place_stable xs more n h)
 

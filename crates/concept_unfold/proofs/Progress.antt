@@ -2,8 +2,8 @@
 use Rattle.std.proofs.Common.{◌≡◌, ℕ, zero, suc, ◌+◌, ◌<◌, ◌≤◌, List, [], ◌∷◌, ◌++◌, length, get_or, drop, map, Option, refl, sym, ap, ◌∙◌, subst, arith, append_assoc, length-append}
 use Rattle.std.specs.Prelude.{Contains, All}
 use Rattle.std.specs.List.{flat_map, sum_by}
-use Rattle.std.proofs.lemmas.List.Elements.{All-contains, All-append, All-weaker, All-contains_itself, All-nil, Contains-append_left, Contains-append_right}
-use Rattle.std.proofs.lemmas.List.Sums.{sum_by-drop_more}
+use Rattle.std.proofs.lemmas.List.Elements.{All-contains, All-get_or, All-append, All-weaker, All-contains_itself, All-nil, Contains-append_left, Contains-append_right}
+use Rattle.std.proofs.lemmas.List.Sums.{sum_by-drop_more, get_or-le-sum_by}
 use Rattle.std.proofs.lemmas.List.Folds.{fold-map}
 use Rattle.priz_base.proofs.More.{drop_at}
 use Rattle.statement_set.specs.declared.statement.Statement.{Statement}
@@ -15,14 +15,18 @@ use Rattle.utopist_syntax.specs.declared.path.Path.{Path}
 use Rattle.utopist_syntax.specs.declared.item.Part.{Part}
 use Rattle.utopist_syntax.specs.declared.item.Item.{Item}
 use Rattle.utopist_syntax.specs.FileTree.{ItemTree, var, eq, rel, item_tree}
+use Rattle.concept_unfold.specs.Built.{IsBuiltItem}
 use Rattle.concept_unfold.specs.declared.fault.Rule.{Rule}
 use Rattle.concept_unfold.specs.declared.fault.Rule.TheVariants as rule
-use Rattle.concept_unfold.specs.Paths.{first_name, input_in, inputs_of, IsOneOf}
+use Rattle.concept_unfold.specs.Paths.{first_name, input_in, inputs_of, input_names, IsOneOf}
+use Rattle.concept_unfold.specs.BodyFault.{IsFaultless}
+use Rattle.concept_unfold.specs.Bodies.{body_over}
 use Rattle.concept_unfold.specs.Declarations.{texts, declared, variables, all_variables}
 use Rattle.concept_unfold.specs.Rows.{is_new, is_path, Row, Holds, AllHold}
-use Rattle.concept_unfold.specs.ConceptRules.{at_name, once_rows, known_rows, item_rows, items_rows}
-use Rattle.concept_unfold.specs.UnfoldingRules.{statements_in}
+use Rattle.concept_unfold.specs.ConceptRules.{at_name, once_rows, known_rows, body_rows, item_rows, items_rows}
+use Rattle.concept_unfold.specs.UnfoldingRules.{size_of, statements_in}
 use Rattle.concept_unfold.specs.Unfolded.{number, statements_of, AreKnown}
+use Rattle.concept_unfold.proofs.Faults.{faultless, body_behind_fewer}
 use Rattle.concept_unfold.proofs.Names.{among_both}
 use Rattle.concept_unfold.proofs.Passing.{none_hold, one_holds, both_hold, first_holds, rest_holds}
 use Rattle.concept_unfold.proofs.Places.{number_stable, numbers_stable}
@@ -41,11 +45,18 @@ pub item_behind_fewer : (names fewer vars : List (List ℕ)) (i : ItemTree) → 
 item_behind_fewer names fewer vars (var ns kind binds) sub h = once_behind_fewer rule.DuplicateName fewer names ns sub h
 item_behind_fewer names fewer vars (eq left right) sub h = none_hold
 item_behind_fewer names fewer vars (rel n parts output body) sub h =
-    let rest = known_rows vars (inputs_of parts) ++ known_rows vars (output ∷ []) in
-    let row = at_name n rule.DuplicateName (is_new names n.text) in
-    let fresh = first_holds row rest h in
-    both_hold (at_name n rule.DuplicateName (is_new fewer n.text) ∷ []) rest
-    (one_holds (at_name n rule.DuplicateName (is_new fewer n.text)) (λ c. fresh (All-contains (Contains names) fewer n.text sub c))) (rest_holds row rest h)
+    let row : List (List ℕ) → Row = λ ns. at_name n rule.DuplicateName (is_new ns n.text) in
+    let inputs = known_rows vars (inputs_of parts) in
+    let outputs = known_rows vars (output ∷ []) in
+    let its_body : List (List ℕ) → List Row = λ ns. body_rows (ns ++ n.text ∷ []) (input_names parts) body in
+    let rest : List (List ℕ) → List Row = λ ns. inputs ++ (outputs ++ its_body ns) in
+    let fresh = first_holds (row names) (rest names) h in
+    let held = rest_holds (row names) (rest names) h in
+    let after = all_right (λ (r : Row). Holds r.check) inputs (outputs ++ its_body names) held in
+    both_hold (row fewer ∷ []) (rest fewer) (one_holds (row fewer) (λ c. fresh (All-contains (Contains names) fewer n.text sub c)))
+    (both_hold inputs (outputs ++ its_body fewer) (all_left (λ (r : Row). Holds r.check) inputs (outputs ++ its_body names) held)
+    (both_hold outputs (its_body fewer) (all_left (λ (r : Row). Holds r.check) outputs (its_body names) after)
+    (body_behind_fewer (names ++ n.text ∷ []) (fewer ++ n.text ∷ []) (input_names parts) body (among_both fewer names n.text sub) (all_right (λ (r : Row). Holds r.check) outputs (its_body names) after))))
 
 -- known paths, as rules have them
 pub known_from_rows : (vars : List (List ℕ)) (ps : List Path) → AllHold (known_rows vars ps) → AreKnown vars ps
@@ -59,18 +70,31 @@ inputs_known_at vars (y ∷ parts) zero x lt is k =
 inputs_known_at vars (y ∷ parts) (suc i) x lt is k = inputs_known_at vars parts i x (omega arith) is (all_right (IsOneOf vars) (input_in y) (inputs_of parts) k)
 
 module _ (names vars : List (List ℕ)) (i : ItemTree) (n : Named) (parts : List Part) (output : Path) (body : Option Tree) (shape : i ≡ rel n parts output body) (h : AllHold (item_rows names vars i)) where
-  its_rows : AllHold (known_rows vars (inputs_of parts) ++ known_rows vars (output ∷ []))
-  its_rows = rest_holds (at_name n rule.DuplicateName (is_new names n.text)) (known_rows vars (inputs_of parts) ++ known_rows vars (output ∷ [])) (subst (λ (x : ItemTree). AllHold (item_rows names vars x)) shape h)
+  abbrev output_rows : List Row
+  output_rows = known_rows vars (output ∷ [])
+
+  abbrev rows_of_body : List Row
+  rows_of_body = body_rows (names ++ n.text ∷ []) (input_names parts) body
+
+  its_rows : AllHold (known_rows vars (inputs_of parts) ++ (output_rows ++ rows_of_body))
+  its_rows = rest_holds (at_name n rule.DuplicateName (is_new names n.text)) (known_rows vars (inputs_of parts) ++ (output_rows ++ rows_of_body)) (subst (λ (x : ItemTree). AllHold (item_rows names vars x)) shape h)
+
+  behind_inputs : AllHold (output_rows ++ rows_of_body)
+  behind_inputs = all_right (λ (r : Row). Holds r.check) (known_rows vars (inputs_of parts)) (output_rows ++ rows_of_body) its_rows
 
   -- the inputs of a relation are variables
   pub inputs_known : AreKnown vars (inputs_of parts)
-  inputs_known = known_from_rows vars (inputs_of parts) (all_left (λ (r : Row). Holds r.check) (known_rows vars (inputs_of parts)) (known_rows vars (output ∷ [])) its_rows)
+  inputs_known = known_from_rows vars (inputs_of parts) (all_left (λ (r : Row). Holds r.check) (known_rows vars (inputs_of parts)) (output_rows ++ rows_of_body) its_rows)
 
   -- and so is its output
   pub output_known : IsOneOf vars output
   output_known =
       first_holds (at_name (first_name output) rule.UnknownPath (is_path vars output)) []
-      (all_right (λ (r : Row). Holds r.check) (known_rows vars (inputs_of parts)) (known_rows vars (output ∷ [])) its_rows)
+      (all_left (λ (r : Row). Holds r.check) output_rows rows_of_body behind_inputs)
+
+  -- and its body has no fault
+  pub body_faultless : IsFaultless (input_names parts) body
+  body_faultless = faultless (names ++ n.text ∷ []) (input_names parts) body (all_right (λ (r : Row). Holds r.check) output_rows rows_of_body behind_inputs)
 
 among_declared : (names vars : List (List ℕ)) (i : ItemTree) → All (Contains names) vars → All (Contains (names ++ declared i)) (vars ++ variables i)
 among_declared names vars (var ns kind binds) sub =
@@ -87,7 +111,7 @@ statements_stable : (names vars more : List (List ℕ)) (i : ItemTree) → AllHo
 statements_stable names vars more (var ns kind binds) h = refl
 statements_stable names vars more (eq left right) h = refl
 statements_stable names vars more (rel n parts output body) h =
-    let statement : List ℕ → ℕ → List Statement = λ ins out. record { inputs = ins; subs = []; output = out } ∷ [] in
+    let statement : List ℕ → ℕ → List Statement = λ ins out. record { inputs = ins; subs = []; output = out; body = body_over (input_names parts) body } ∷ [] in
     let known = inputs_known names vars (rel n parts output body) n parts output body refl h in
     let out = output_known names vars (rel n parts output body) n parts output body refl h in
     ap (λ ins. statement ins (number (vars ++ more) output)) (numbers_stable vars more (inputs_of parts) known)
@@ -99,6 +123,16 @@ statement_count vars (eq left right) = refl
 statement_count vars (rel n parts output body) = refl
 
 module _ (items : List Item) (i : ℕ) (x : Item) (lt : i < length items) (is : x ≡ get_or items i x) where
+  pub item_built : All IsBuiltItem (map item_tree items) → IsBuiltItem (item_tree x)
+  item_built h =
+      let at : Item → Type 0 = λ y. IsBuiltItem (item_tree y) in
+      subst at (sym is) (All-get_or at items i x lt (all_of_map IsBuiltItem item_tree items h))
+
+  pub item_size : sum_by size_of (map item_tree items) ≤ 262144 → size_of (item_tree x) ≤ 262144
+  item_size h =
+      let f : Item → ℕ = λ y. size_of (item_tree y) in
+      omega (arith, h, get_or-le-sum_by f items i x lt, ap f is, fold-map (λ a y. a + size_of y) item_tree 0 items)
+
   pub here_follows : (names vars : List (List ℕ)) → AllHold (items_rows names vars (map item_tree (drop i items))) → AllHold (item_rows names vars (item_tree x))
   here_follows names vars h =
       all_left (λ (r : Row). Holds r.check) (item_rows names vars (item_tree x)) (items_rows (names ++ declared (item_tree x)) (vars ++ variables (item_tree x)) (map item_tree (drop (i + 1) items)))

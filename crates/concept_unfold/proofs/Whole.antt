@@ -7,7 +7,7 @@ use Rattle.statement_set.specs.declared.statement.Statement.{Statement}
 use Rattle.statement_set.specs.Problem.{Task, IsWhole}
 use Rattle.utopist_syntax.specs.declared.path.Path.{Path}
 use Rattle.utopist_syntax.specs.FileTree.{ItemTree, var, eq, rel}
-use Rattle.concept_unfold.specs.Paths.{IsOneOf, inputs_of}
+use Rattle.concept_unfold.specs.Paths.{IsOneOf}
 use Rattle.concept_unfold.specs.Unfolded.{AreKnown, number, plain_statement, statements_of}
 
 some_want : (vars : List (List ℕ)) (ws : List Path) → AreKnown vars ws → ws ≢ [] → (1 ≤ length vars) × (map (number vars) ws ≢ [])
@@ -29,7 +29,7 @@ item_plain : (vars : List (List ℕ)) (i : ItemTree) → All (λ (s : Statement)
 item_plain vars (var ns kind binds) = All-nil (λ (s : Statement). s.subs ≡ [])
 item_plain vars (eq left right) = All-nil (λ (s : Statement). s.subs ≡ [])
 item_plain vars (rel n parts output body) =
-    All-cons (λ (s : Statement). s.subs ≡ []) (plain_statement vars (inputs_of parts) output) [] refl (All-nil (λ (s : Statement). s.subs ≡ []))
+    All-cons (λ (s : Statement). s.subs ≡ []) (plain_statement vars parts output body) [] refl (All-nil (λ (s : Statement). s.subs ≡ []))
 
 -- no statement has a subtask
 pub plain : (vars : List (List ℕ)) (items : List ItemTree) → All (λ (s : Statement). s.subs ≡ []) (flat_map (statements_of vars) items)

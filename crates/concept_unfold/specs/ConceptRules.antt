@@ -1,15 +1,17 @@
 -- The rules of concepts, in the order of the text: names are declared once, and before they are used.
-use Rattle.std.specs.Prelude.{ℕ, ◌+◌, List, [], ◌∷◌, ◌++◌, length, map}
+use Rattle.std.specs.Prelude.{ℕ, ◌+◌, List, [], ◌∷◌, ◌++◌, length, map, Option, Some, None, Ok, Err}
 use Rattle.utopist_syntax.specs.Named.{Named}
 use Rattle.utopist_syntax.specs.declared.path.Path.{Path}
 use Rattle.utopist_syntax.specs.declared.compute.Compute.{Compute}
+use Rattle.utopist_syntax.specs.Tree.{Tree}
 use Rattle.utopist_syntax.specs.FileTree.{ItemTree, var, eq, rel, ConceptTree, FileTree}
 use Rattle.concept_unfold.specs.declared.fault.Rule.{Rule}
 use Rattle.concept_unfold.specs.declared.fault.Rule.TheVariants as rule
 use Rattle.concept_unfold.specs.declared.fault.Limit.TheVariants as limit
-use Rattle.concept_unfold.specs.Paths.{first_name, inputs_of, given_paths}
+use Rattle.concept_unfold.specs.Paths.{first_name, inputs_of, input_names, given_paths}
 use Rattle.concept_unfold.specs.Declarations.{declared, variables, all_variables, items_of, concept_names}
-use Rattle.concept_unfold.specs.Rows.{Check, at_most, is_new, is_known, is_path, Row}
+use Rattle.concept_unfold.specs.BodyFault.{Verdict, expr_fault}
+use Rattle.concept_unfold.specs.Rows.{Check, at_most, is_new, is_known, is_path, never, Row}
 
 -- a rule on a name, checked where the name stands
 abbrev pub at_name : Named → Rule → Check → Row
@@ -24,12 +26,23 @@ once_rows r earlier (n ∷ ns) = at_name n r (is_new earlier n.text) ∷ once_ro
 abbrev pub known_rows : List (List ℕ) → List Path → List Row
 known_rows vars paths = map (λ p. at_name (first_name p) rule.UnknownPath (is_path vars p)) paths
 
--- an item behind items that declare these names, and these variables among them: its names are new, and it uses variables; of the forms that are built
+-- a rule that was found to fail, if one was
+abbrev pub fault_rows : Verdict → List Row
+fault_rows (Ok u) = []
+fault_rows (Err f) = record { place = f.place; rule = f.rule; check = never } ∷ []
+
+-- the body of a relation behind these names, its own among them: no loop has one of them, and the inputs and the loops are read
+abbrev pub body_rows : List (List ℕ) → List (List ℕ) → Option Tree → List Row
+body_rows names inputs None = []
+body_rows names inputs (Some e) = fault_rows (expr_fault (record { taken = names; inputs = inputs; rounds = [] }) e)
+
+-- an item behind items that declare these names, and these variables among them: its names are new, it uses variables, and its body what stands before; of the forms that are built
 abbrev pub item_rows : List (List ℕ) → List (List ℕ) → ItemTree → List Row
 item_rows names vars (var ns kind binds) = once_rows rule.DuplicateName names ns
 item_rows names vars (eq left right) = []
 item_rows names vars (rel n parts output body) =
-    at_name n rule.DuplicateName (is_new names n.text) ∷ (known_rows vars (inputs_of parts) ++ known_rows vars (output ∷ []))
+    at_name n rule.DuplicateName (is_new names n.text)
+    ∷ (known_rows vars (inputs_of parts) ++ (known_rows vars (output ∷ []) ++ body_rows (names ++ n.text ∷ []) (input_names parts) body))
 
 -- items one after another
 abbrev pub items_rows : List (List ℕ) → List (List ℕ) → List ItemTree → List Row

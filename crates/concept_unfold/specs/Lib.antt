@@ -6,3 +6,8 @@ pub mod ConceptRules
 pub mod UnfoldingRules
 pub mod Unfolded
 pub mod Answers
+pub mod LoopNames
+pub mod InputPlaces
+pub mod BodyFault
+pub mod Bodies
+pub mod Nodes

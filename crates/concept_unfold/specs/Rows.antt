@@ -9,12 +9,13 @@ use Rattle.concept_unfold.specs.declared.fault.UnfoldFault.TheVariants as fault
 use Rattle.concept_unfold.specs.Paths.{IsOneOf}
 
 -- what a rule asks for: no more than the limit; a name that is none of these; a name that is one of these; a path of one name,
--- which is one of these
+-- which is one of these; what never is
 pub data Check : Type 0 where
   at_most : ℕ → ℕ → Check
   is_new : List (List ℕ) → List ℕ → Check
   is_known : List (List ℕ) → List ℕ → Check
   is_path : List (List ℕ) → Path → Check
+  never : Check
 
 -- it is so
 abbrev pub Holds : Check → Type 0
@@ -22,6 +23,7 @@ Holds (at_most limit n) = n ≤ limit
 Holds (is_new names name) = ¬ Contains names name
 Holds (is_known names name) = Contains names name
 Holds (is_path names p) = IsOneOf names p
+Holds never = ⊥
 
 -- a rule, and where it is checked
 pub record Row : Type 0 where

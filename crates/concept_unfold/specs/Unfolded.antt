@@ -1,15 +1,18 @@
 -- The problem of a file.
-use Rattle.std.specs.Prelude.{ℕ, List, [], ◌∷◌, map, All}
+use Rattle.std.specs.Prelude.{ℕ, List, [], ◌∷◌, map, All, Option}
 use Rattle.std.specs.List.{flat_map, position_or_len}
 use Rattle.std.specs.Str.{bytes_eq}
 use Rattle.statement_set.specs.declared.statement.Statement.{Statement}
 use Rattle.statement_set.specs.declared.given.Given.{Given}
 use Rattle.statement_set.specs.Problem.{Task}
 use Rattle.utopist_syntax.specs.declared.path.Path.{Path}
+use Rattle.utopist_syntax.specs.declared.item.Part.{Part}
+use Rattle.utopist_syntax.specs.Tree.{Tree}
 use Rattle.utopist_syntax.specs.declared.compute.Compute.{Compute}
 use Rattle.utopist_syntax.specs.declared.compute.GivenPath.{GivenPath}
 use Rattle.utopist_syntax.specs.FileTree.{ItemTree, var, eq, rel, FileTree}
-use Rattle.concept_unfold.specs.Paths.{first_name, IsOneOf, inputs_of}
+use Rattle.concept_unfold.specs.Paths.{first_name, IsOneOf, inputs_of, input_names}
+use Rattle.concept_unfold.specs.Bodies.{body_over}
 use Rattle.concept_unfold.specs.Declarations.{all_variables, items_of}
 
 -- the number of a variable is the place of its name among the variables
@@ -21,18 +24,23 @@ abbrev pub AreKnown : List (List ℕ) → List Path → Type 0
 AreKnown vars paths = All (IsOneOf vars) paths
 
 -- the statement of a relation
-abbrev pub plain_statement : List (List ℕ) → List Path → Path → Statement
-plain_statement vars inputs output = record { inputs = map (number vars) inputs; subs = []; output = number vars output }
+abbrev pub plain_statement : List (List ℕ) → List Part → Path → Option Tree → Statement
+plain_statement vars parts output body = record {
+  inputs = map (number vars) (inputs_of parts);
+  subs = [];
+  output = number vars output;
+  body = body_over (input_names parts) body;
+}
 
 -- the statements that an item gives, of the forms that are built
 abbrev pub statements_of : List (List ℕ) → ItemTree → List Statement
 statements_of vars (var names kind binds) = []
 statements_of vars (eq left right) = []
-statements_of vars (rel name parts output body) = plain_statement vars (inputs_of parts) output ∷ []
+statements_of vars (rel name parts output body) = plain_statement vars parts output body ∷ []
 
--- what is given, without a value
+-- what is given, with its value if it has one
 abbrev pub given_of : List (List ℕ) → GivenPath → Given
-given_of vars g = record { var = number vars g.path }
+given_of vars g = record { var = number vars g.path; value = g.value }
 
 -- the problem of these items and a compute statement: variables, statements, what is given and what is wanted, each in the order of the text
 abbrev pub problem_from : List ItemTree → Compute → Task

@@ -7,6 +7,7 @@ use Rattle.concept_unfold.specs.declared.fault.Rule.TheVariants as rule
 use Rattle.concept_unfold.specs.declared.fault.Limit.{Limit}
 use Rattle.concept_unfold.specs.declared.fault.Limit.TheVariants as limit
 use Rattle.concept_unfold.specs.Paths.{inputs_of, given_names}
+use Rattle.concept_unfold.specs.Nodes.{body_nodes}
 use Rattle.concept_unfold.specs.Declarations.{all_variables, items_of}
 use Rattle.concept_unfold.specs.Rows.{at_most, Row}
 use Rattle.concept_unfold.specs.ConceptRules.{at_name, once_rows, concept_rules}
@@ -15,7 +16,7 @@ use Rattle.concept_unfold.specs.ConceptRules.{at_name, once_rows, concept_rules}
 abbrev pub size_of : ItemTree → ℕ
 size_of (var names kind binds) = 0
 size_of (eq left right) = 0
-size_of (rel name parts output body) = 1 + length (inputs_of parts)
+size_of (rel name parts output body) = 1 + length (inputs_of parts) + body_nodes body
 
 -- how many statements an item gives, of these forms
 abbrev pub statements_in : ItemTree → ℕ

@@ -1,14 +1,15 @@
 ghost use Rattle.std.specs.Prelude.{◌≡◌, ◌↔◌, map, All, IsTrue};
-ghost use Rattle.utopist_syntax.specs.FileTree.{item_tree, concept_tree, file_tree};
-ghost use Rattle.concept_unfold.specs.Built.{IsInput, IsBuiltItem, IsBuiltConcept, IsBuiltCompute, IsBuilt};
+ghost use Rattle.utopist_syntax.specs.View.{tree_of};
+ghost use Rattle.utopist_syntax.specs.FileTree.{item_tree, body_tree, concept_tree, file_tree};
+ghost use Rattle.concept_unfold.specs.Built.{IsInput, IsBuiltExpr, IsBuiltBody, IsBuiltItem, IsBuiltConcept, IsBuilt};
 
-use utopist_syntax::{Compute, Concept, File, Item, Part, VarKind};
+use utopist_syntax::{Concept, Expr, File, Item, Part, VarKind};
 
 /// Whether a file has only the forms that are built.
 pub fn is_built(file: &File) -> bool
     ensures { IsTrue result ↔ IsBuilt (file_tree file.now) }
 {
-    are_built_concepts(file.concepts.as_slice()) && are_built_computes(file.computes.as_slice())
+    are_built_concepts(file.concepts.as_slice())
 }
 
 fn are_built_concepts(concepts: &[Concept]) -> bool
@@ -36,8 +37,50 @@ fn is_built_item(item: &Item) -> bool
         Item::Var { kind, binds, .. } => is_numeric(kind) && binds.is_empty(),
         Item::Eq { .. } => false,
         Item::Rel { parts, body, .. } => {
-            body.is_none() && parts.as_slice().iter().all(|p| is_input(p))
+            parts.as_slice().iter().all(|p| is_input(p)) && is_built_body(body)
         }
+    }
+}
+
+fn is_built_body(body: &Option<Expr>) -> bool
+    ensures { IsTrue result ↔ IsBuiltBody (body_tree body.now) }
+{
+    match body {
+        Some(expr) => is_built_expr(expr),
+        None => true,
+    }
+}
+
+fn is_built_expr(expr: &Expr) -> bool
+    ensures { IsTrue result ↔ IsBuiltExpr (tree_of expr.now) }
+{
+    match expr {
+        Expr::Num(n) => *n >= 0,
+        Expr::Path(_) => true,
+        Expr::Neg(inner) => is_built_expr(inner.get()),
+        Expr::Op { op: _, left, right } => is_built_expr(left.get()) && is_built_expr(right.get()),
+        Expr::If {
+            cmp: _,
+            left,
+            right,
+            yes,
+            no,
+        } => {
+            is_built_expr(left.get())
+                && is_built_expr(right.get())
+                && is_built_expr(yes.get())
+                && is_built_expr(no.get())
+        }
+        Expr::Loop {
+            kind: _,
+            name: _,
+            first,
+            second,
+            each,
+        } => {
+            is_built_expr(first.get()) && is_built_expr(second.get()) && is_built_expr(each.get())
+        }
+        Expr::Call { .. } => false,
     }
 }
 
@@ -57,16 +100,4 @@ fn is_input(part: &Part) -> bool
         Part::Input(_) => true,
         Part::Subtask { .. } => false,
     }
-}
-
-fn are_built_computes(computes: &[Compute]) -> bool
-    ensures { IsTrue result ↔ All IsBuiltCompute computes.now }
-{
-    computes.iter().all(|compute| is_built_compute(compute))
-}
-
-fn is_built_compute(compute: &Compute) -> bool
-    ensures { IsTrue result ↔ IsBuiltCompute compute.now }
-{
-    compute.givens.as_slice().iter().all(|g| g.value.is_none())
 }

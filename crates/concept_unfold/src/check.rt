@@ -6,6 +6,7 @@ ghost use Rattle.concept_unfold.specs.Declarations.{declared, variables, all_var
 ghost use Rattle.concept_unfold.specs.Rows.{Checks};
 ghost use Rattle.concept_unfold.specs.ConceptRules.{item_rows, items_rows, concept_rows, concepts_rows, compute_rows, computes_rows, concept_rules};
 
+use crate::body_rules::check_body;
 use crate::concepts::Concepts;
 use crate::fault::{Limit, Rule, UnfoldFault};
 use crate::rules::{
@@ -65,12 +66,12 @@ fn check_items(alloc: Global, items: &[Item]) -> Result<Names, UnfoldFault>
 {
     let mut scope = Scope::new(alloc);
     for item in items {
-        check_item(&mut scope, item)?;
+        check_item(alloc, &mut scope, item)?;
     }
     Ok(scope.into_variables())
 }
 
-fn check_item(scope: &mut Scope, item: &Item) -> Result<(), UnfoldFault>
+fn check_item(alloc: Global, scope: &mut Scope, item: &Item) -> Result<(), UnfoldFault>
     ensures rules { Checks (item_rows scope.old.names scope.old.variables (item_tree item.now)) result }
     ensures names { OnOk result (scope.new.names ≡ scope.old.names ++ declared (item_tree item.now)) }
     ensures variables { OnOk result (scope.new.variables ≡ scope.old.variables ++ variables (item_tree item.now)) }
@@ -82,11 +83,12 @@ fn check_item(scope: &mut Scope, item: &Item) -> Result<(), UnfoldFault>
             name,
             parts,
             output,
-            ..
+            body,
         } => {
             scope.declare_operator(name)?;
             expect_inputs_known(scope.variables(), parts.as_slice())?;
-            expect_known(scope.variables(), output)
+            expect_known(scope.variables(), output)?;
+            check_body(alloc, scope.names(), parts.as_slice(), body)
         }
     }
 }

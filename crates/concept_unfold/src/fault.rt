@@ -23,6 +23,8 @@ pub enum Rule {
     UnknownConcept,
     DuplicateName,
     UnknownPath,
+    /// A loop has a name that is taken.
+    ShadowedName,
     /// A variable is given twice.
     DuplicateInput,
     TooMany(Limit),
@@ -42,6 +44,14 @@ pub enum UnfoldFault {
     Model(ModelFault),
     /// Want of memory.
     NoMem,
+}
+
+impl From<ModelFault> for UnfoldFault {
+    ghost from_gives = { λ f e. e ≡ fault.Model f };
+
+    fn from(broken: ModelFault) -> UnfoldFault {
+        UnfoldFault::Model(broken)
+    }
 }
 
 impl From<NoMem> for UnfoldFault {

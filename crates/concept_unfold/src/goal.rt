@@ -38,7 +38,10 @@ fn add_givens(problem: &mut Problem, givens: &[GivenPath]) -> Result<(), UnfoldF
         if seen.has(var) {
             return Err(fault_on(&given.path, Rule::DuplicateInput));
         }
-        problem.add_given(Given { var })?;
+        problem.add_given(Given {
+            var,
+            value: given.value,
+        })?;
         seen.add(var);
     }
     Ok(())

@@ -1,27 +1,33 @@
-ghost use Rattle.std.specs.Prelude.{◌≡◌, ◌+◌, ◌<◌, ◌≤◌, ◌∷◌, ◌++◌, [], length, map, OnOk};
+ghost use Rattle.std.specs.Prelude.{◌≡◌, ◌+◌, ◌<◌, ◌≤◌, ◌∷◌, ◌++◌, [], length, map, All, OnOk};
 ghost use Rattle.std.specs.List.{flat_map, sum_by};
 ghost use Rattle.statement_set.specs.Problem.{empty_task};
-ghost use Rattle.utopist_syntax.specs.FileTree.{item_tree};
-ghost use Rattle.concept_unfold.specs.Paths.{inputs_of, IsOneOf};
+ghost use Rattle.utopist_syntax.specs.FileTree.{item_tree, body_tree};
+ghost use Rattle.concept_unfold.specs.Built.{IsBuiltBody, IsBuiltItem};
+ghost use Rattle.concept_unfold.specs.Paths.{inputs_of, input_names, IsOneOf};
+ghost use Rattle.concept_unfold.specs.Nodes.{body_nodes};
+ghost use Rattle.concept_unfold.specs.BodyFault.{IsFaultless};
 ghost use Rattle.concept_unfold.specs.Declarations.{texts, variables, all_variables};
 ghost use Rattle.concept_unfold.specs.Rows.{AllHold};
 ghost use Rattle.concept_unfold.specs.ConceptRules.{once_rows, item_rows, items_rows};
-ghost use Rattle.concept_unfold.specs.UnfoldingRules.{statements_in};
+ghost use Rattle.concept_unfold.specs.UnfoldingRules.{size_of, statements_in};
 ghost use Rattle.concept_unfold.specs.Unfolded.{plain_statement, statements_of, AreKnown};
 
+use crate::bodies::body_of;
 use crate::fault::Rule;
 use crate::numbers::{input_vars, var_of};
 use priz_base::NoMem;
 use sqlite_items::Items;
 use statement_set::{Problem, Statement};
 use std::alloc::Global;
-use utopist_syntax::{Item, Name, Part, Path};
+use utopist_syntax::{Expr, Item, Name, Part, Path};
 
 /// Adds the variables and the statements of items to an empty problem.
 pub(crate) fn add_items(alloc: Global, problem: &mut Problem, items: &[Item]) -> Result<(), NoMem>
     requires empty { problem.old ≡ empty_task }
     requires rules { AllHold (items_rows [] [] (map item_tree items.now)) }
+    requires built { All IsBuiltItem (map item_tree items.now) }
     requires names { length (all_variables (map item_tree items.now)) ≤ 1024 }
+    requires size { sum_by size_of (map item_tree items.now) ≤ 262144 }
     requires statements { sum_by statements_in (map item_tree items.now) ≤ 4096 }
     ensures { OnOk result (problem.new ≡ record empty_task { names = all_variables (map item_tree items.now); statements = flat_map (statements_of (all_variables (map item_tree items.now))) (map item_tree items.now) }) }
 {
@@ -33,14 +39,21 @@ pub(crate) fn add_items(alloc: Global, problem: &mut Problem, items: &[Item]) ->
 
 fn add_item(alloc: Global, problem: &mut Problem, item: &Item) -> Result<(), NoMem>
     requires rules { AllHold (item_rows problem.old.names problem.old.names (item_tree item.now)) }
+    requires built { IsBuiltItem (item_tree item.now) }
     requires names { length problem.old.names + length (variables (item_tree item.now)) ≤ 1024 }
+    requires size { size_of (item_tree item.now) ≤ 262144 }
     requires statements { length problem.old.statements + statements_in (item_tree item.now) ≤ 4096 }
     ensures { OnOk result (problem.new ≡ record problem.old { names = problem.old.names ++ variables (item_tree item.now); statements = problem.old.statements ++ statements_of problem.old.names (item_tree item.now) }) }
 {
     match item {
         Item::Var { names, .. } => add_variables(problem, names.as_slice()),
         Item::Eq { .. } => Ok(()),
-        Item::Rel { parts, output, .. } => add_statement(alloc, problem, parts.as_slice(), output),
+        Item::Rel {
+            parts,
+            output,
+            body,
+            ..
+        } => add_statement(alloc, problem, parts.as_slice(), output, body),
     }
 }
 
@@ -60,20 +73,26 @@ fn add_statement(
     problem: &mut Problem,
     parts: &[Part],
     output: &Path,
+    body: &Option<Expr>,
 ) -> Result<(), NoMem>
     requires inputs { AreKnown problem.old.names (inputs_of parts.now) }
     requires output { IsOneOf problem.old.names output.now }
+    requires built { IsBuiltBody (body_tree body.now) }
+    requires body { IsFaultless (input_names parts.now) (body_tree body.now) }
+    requires size { length (inputs_of parts.now) + body_nodes (body_tree body.now) ≤ 262144 }
     requires room { length problem.old.statements < 4096 }
-    ensures { OnOk result (problem.new ≡ record problem.old { statements = problem.old.statements ++ plain_statement problem.old.names (inputs_of parts.now) output.now ∷ [] }) }
+    ensures { OnOk result (problem.new ≡ record problem.old { statements = problem.old.statements ++ plain_statement problem.old.names parts.now output.now (body_tree body.now) ∷ [] }) }
 {
     problem.is_well_formed();
     let inputs = input_vars(alloc, problem, parts)?;
     let output = var_of(problem, output);
     let subs = Items::new(alloc);
+    let body = body_of(alloc, parts, body)?;
     problem.add_statement(Statement {
         inputs,
         subs,
         output,
+        body,
     })?;
     Ok(())
 }

@@ -1,18 +1,24 @@
 //! From a file to the problems of its compute statements: the rules of concepts, and unfolding.
 #![tactic(auto)]
 
+mod bodies;
+mod body_rules;
 mod built;
 mod check;
 mod concepts;
 mod fault;
 mod goal;
+mod inputs;
 mod items;
 mod limits;
+mod loops;
 mod numbers;
 mod rules;
 mod scope;
 #[cfg(test)]
 mod tests;
+#[cfg(test)]
+mod tests_bodies;
 mod unfolding;
 
 pub use built::is_built;

@@ -1,14 +1,16 @@
 ghost use Rattle.std.specs.Prelude.{◌≡◌, ◌-◌, ◌^◌, length, map, min};
 ghost use Rattle.std.specs.List.{sum_by};
-ghost use Rattle.utopist_syntax.specs.FileTree.{item_tree};
+ghost use Rattle.utopist_syntax.specs.View.{tree_of};
+ghost use Rattle.utopist_syntax.specs.FileTree.{item_tree, body_tree};
 ghost use Rattle.concept_unfold.specs.Paths.{inputs_of};
+ghost use Rattle.concept_unfold.specs.Nodes.{nodes, body_nodes};
 ghost use Rattle.concept_unfold.specs.Declarations.{variables, all_variables};
 ghost use Rattle.concept_unfold.specs.Rows.{Checks};
 ghost use Rattle.concept_unfold.specs.UnfoldingRules.{size_of, statements_in, limit_rows};
 
 use crate::fault::{Limit, UnfoldFault};
 use crate::rules::expect_at_most;
-use utopist_syntax::{Compute, Item, Part};
+use utopist_syntax::{Compute, Expr, Item, Part};
 
 const MAX_PATHS: usize = 8192;
 
@@ -72,8 +74,49 @@ fn size_of(item: &Item) -> usize
 {
     match item {
         Item::Var { .. } | Item::Eq { .. } => 0,
-        Item::Rel { parts, .. } => input_count(parts.as_slice()).saturating_add(1),
+        Item::Rel { parts, body, .. } => input_count(parts.as_slice())
+            .saturating_add(1)
+            .saturating_add(body_nodes(body)),
     }
+}
+
+fn body_nodes(body: &Option<Expr>) -> usize
+    ensures { result ≡ min (body_nodes (body_tree body.now)) (2 ^ 64 - 1) }
+{
+    match body {
+        Some(expr) => nodes(expr),
+        None => 0,
+    }
+}
+
+fn nodes(expr: &Expr) -> usize
+    ensures { result ≡ min (nodes (tree_of expr.now)) (2 ^ 64 - 1) }
+{
+    let parts = match expr {
+        Expr::Num(_) | Expr::Path(_) | Expr::Call { .. } => 0,
+        Expr::Neg(inner) => nodes(inner.get()),
+        Expr::Op { op: _, left, right } => nodes(left.get()).saturating_add(nodes(right.get())),
+        Expr::If {
+            cmp: _,
+            left,
+            right,
+            yes,
+            no,
+        } => nodes(left.get())
+            .saturating_add(nodes(right.get()))
+            .saturating_add(nodes(yes.get()))
+            .saturating_add(nodes(no.get())),
+        Expr::Loop {
+            kind: _,
+            name: _,
+            first,
+            second,
+            each,
+        } => nodes(first.get())
+            .saturating_add(nodes(second.get()))
+            .saturating_add(nodes(each.get())),
+    };
+    parts.saturating_add(1)
 }
 
 fn input_count(parts: &[Part]) -> usize

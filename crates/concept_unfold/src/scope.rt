@@ -71,6 +71,12 @@ impl Scope {
         Ok(())
     }
 
+    pub(crate) fn names(&self) -> &Names
+        ensures { result.now ≡ self.now.names }
+    {
+        &self.names
+    }
+
     pub(crate) fn variables(&self) -> &Names
         ensures { result.now ≡ self.now.variables }
     {

@@ -11,7 +11,7 @@ use std::test::Fail;
 use utopist_parser::{ParseFault, parse};
 use utopist_syntax::File;
 
-fn read(alloc: Global, text: &str) -> Result<File, ParseFault>
+pub(crate) fn read(alloc: Global, text: &str) -> Result<File, ParseFault>
     ensures { IfOk result (λ f. AllAsk (file_tree f)) }
 {
     if text.len() > MAX_INPUT {
@@ -20,7 +20,7 @@ fn read(alloc: Global, text: &str) -> Result<File, ParseFault>
     parse(alloc, text)
 }
 
-fn fault(rule: Rule, at: u32, line: u32, col: u32) -> UnfoldFault {
+pub(crate) fn fault(rule: Rule, at: u32, line: u32, col: u32) -> UnfoldFault {
     UnfoldFault::Model(ModelFault {
         place: Place { at, line, col },
         rule,
@@ -29,7 +29,7 @@ fn fault(rule: Rule, at: u32, line: u32, col: u32) -> UnfoldFault {
 
 /// What comes first: a rule of concepts that fails, or one of unfolding at the first compute statement. A text that
 /// doesn't read, or has a form that isn't built, is `NoMem`, which no test expects.
-fn first_fault(alloc: Global, text: &str) -> Result<(), UnfoldFault> {
+pub(crate) fn first_fault(alloc: Global, text: &str) -> Result<(), UnfoldFault> {
     let Ok(file) = read(alloc, text) else {
         return Err(UnfoldFault::NoMem);
     };

@@ -23,7 +23,9 @@ use Rattle.utopist_parser.specs.ExprSymbols.{behind as next_of, separated, spell
 use Rattle.utopist_parser.specs.ExprTree.{all_of, see_expr}
 use Rattle.utopist_parser.specs.FileSymbols.{spell_option, spell_names, spell_paths, spell_binds, spell_part, spell_parts, spell_body, spell_item, spell_parents, spell_concept, spell_value, spell_given, spell_givens, spell_compute, spell_file}
 use Rattle.utopist_parser.specs.FileSeen.{all_if_any, see_option, see_part, see_item, see_concept, see_value, see_given, see_compute, see_file}
-use Rattle.concept_unfold.specs.Built.{IsInput, IsBuiltItem, IsBuiltConcept, IsBuiltCompute, IsBuilt}
+use Rattle.concept_unfold.specs.Built.{IsInput}
+use Rattle.priz_cli.specs.Answered.{HasNoValue, IsAnswered}
+use Rattle.priz_cli.proofs.PlainForms.{IsPlainItem, IsPlainConcept, plain_is_answered, answered_is_plain}
 use Rattle.priz_cli.specs.declared.unbuilt.Context.{Context}
 use Rattle.priz_cli.specs.Unbuilt.{word_opens, mark_opens, opens, is_var, is_colon, behind, at_start, NoneOpens}
 
@@ -258,7 +260,7 @@ recast_watched {X} {C} {s} t Other from same to_b of_b w = record {
 -- ---- items
 
 abbrev BuiltItem : WrittenItem → Type 0
-BuiltItem i = IsBuiltItem (see_item i)
+BuiltItem i = IsPlainItem (see_item i)
 
 of_numeric : (n : Named) → var_kinds.Of n ≡ var_kinds.Numeric → ⊥
 of_numeric n e = cc
@@ -339,12 +341,12 @@ no_parents (Some ns) e = absurd (some_none ns.first ns.more e) where
   some_none n l i = cc
 
 abbrev BuiltConcept : WrittenConcept → Type 0
-BuiltConcept c = IsBuiltConcept (see_concept c)
+BuiltConcept c = IsPlainConcept (see_concept c)
 
 concept_watched : Watched spell_concept BuiltConcept
 concept_watched =
-    recast_watched spell_concept BuiltConcept (λ c. (c.name, (c.parents, (c.items, tt)))) (λ c. refl) (λ c b. (no_parents c.parents b.0, (unmap_all IsBuiltItem see_item c.items b.1, tt)))
-    (λ c b. (ap all_if_any b.0, map_all IsBuiltItem see_item c.items b.1.0)) parts_of_watched
+    recast_watched spell_concept BuiltConcept (λ c. (c.name, (c.parents, (c.items, tt)))) (λ c. refl) (λ c b. (no_parents c.parents b.0, (unmap_all IsPlainItem see_item c.items b.1, tt)))
+    (λ c b. (ap all_if_any b.0, map_all IsPlainItem see_item c.items b.1.0)) parts_of_watched
 
 -- ---- compute statements
 
@@ -395,7 +397,7 @@ asked_watched =
     (both_watched spell_paths (λ (u : Unit {0}). mark marks.CloseRound ∷ mark marks.Semicolon ∷ []) Always Always paths_watched (next_watched marks.CloseRound refl (stop_watched marks.Semicolon refl))))))))
 
 abbrev BuiltCompute : WrittenCompute → Type 0
-BuiltCompute c = IsBuiltCompute (see_compute c)
+BuiltCompute c = HasNoValue (see_compute c)
 
 compute_watched : Watched spell_compute BuiltCompute
 compute_watched =
@@ -406,15 +408,16 @@ compute_watched =
 end_passes : Passes (end ∷ [])
 end_passes c calm = (refl, tt)
 
--- where a file is built, none of its tokens begins another form
-pub built_passes : (w : WrittenFile) → IsBuilt (see_file w) → NoneOpens at_start (kinds_in (spell_file w))
-built_passes w b =
-    (all_watched spell_concept BuiltConcept concept_watched).on w.concepts (unmap_all IsBuiltConcept see_concept w.concepts b.0) (flat_map spell_compute w.computes ++ (end ∷ []))
-    ((all_watched spell_compute BuiltCompute compute_watched).on w.computes (unmap_all IsBuiltCompute see_compute w.computes b.1) (end ∷ []) end_passes) at_start refl
+-- where a file is answered, none of its tokens begins another form
+pub built_passes : (w : WrittenFile) → IsAnswered (see_file w) → NoneOpens at_start (kinds_in (spell_file w))
+built_passes w answered =
+    let b = answered_is_plain (see_file w) answered in
+    (all_watched spell_concept BuiltConcept concept_watched).on w.concepts (unmap_all IsPlainConcept see_concept w.concepts b.0) (flat_map spell_compute w.computes ++ (end ∷ []))
+    ((all_watched spell_compute BuiltCompute compute_watched).on w.computes (unmap_all HasNoValue see_compute w.computes b.1) (end ∷ []) end_passes) at_start refl
 
--- and where none does, it is built
-pub passing_is_built : (w : WrittenFile) → NoneOpens at_start (kinds_in (spell_file w)) → IsBuilt (see_file w)
+-- and where none does, it is answered
+pub passing_is_built : (w : WrittenFile) → NoneOpens at_start (kinds_in (spell_file w)) → IsAnswered (see_file w)
 passing_is_built w h =
     let r = (all_watched spell_concept BuiltConcept concept_watched).back w.concepts (flat_map spell_compute w.computes ++ (end ∷ [])) at_start refl h in
     let t = (all_watched spell_compute BuiltCompute compute_watched).back w.computes (end ∷ []) r.1.context r.1.calm r.1.rest in
-    (map_all IsBuiltConcept see_concept w.concepts r.0, map_all IsBuiltCompute see_compute w.computes t.0)
+    plain_is_answered (see_file w) (map_all IsPlainConcept see_concept w.concepts r.0, map_all HasNoValue see_compute w.computes t.0)

@@ -6,3 +6,4 @@ pub mod Steps
 pub mod Ends
 pub mod UnbuiltTokens
 pub mod BuiltForms
+mod PlainForms

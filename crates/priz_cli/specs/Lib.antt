@@ -1,5 +1,6 @@
 pub mod Words
 pub mod Unbuilt
+pub mod Answered
 pub mod Accepted
 pub mod Refused
 pub mod Reports

@@ -2,11 +2,11 @@
 use Rattle.std.specs.Prelude.{◌≡◌, ℕ, List, Result, Ok, Err}
 use Rattle.utopist_syntax.specs.declared.file.File.{File}
 use Rattle.utopist_syntax.specs.FileTree.{FileTree, file_tree}
-use Rattle.concept_unfold.specs.Built.{IsBuilt}
 use Rattle.statement_set.specs.Problem.{Task}
 use Rattle.concept_unfold.specs.declared.fault.ModelFault.{ModelFault}
 use Rattle.concept_unfold.specs.Rows.{AllHold, FirstFailing}
 use Rattle.concept_unfold.specs.UnfoldingRules.{rules_of}
+use Rattle.priz_cli.specs.Answered.{IsAnswered}
 use Rattle.priz_cli.specs.declared.refusal.Refusal.TheVariants as refusal
 use Rattle.priz_cli.specs.declared.fault.Fault.{Fault}
 use Rattle.priz_cli.specs.declared.fault.Fault.TheVariants as fault
@@ -15,10 +15,10 @@ use Rattle.priz_cli.specs.Accepted.{Spells, Accepts}
 use Rattle.priz_cli.specs.Refused.{Refuses, IsRefused}
 use Rattle.priz_cli.specs.Reports.{problems_of, AreAnswers, report_of}
 
--- the one file that the bytes spell, whose forms are built, or why there is none
+-- the one file that the bytes spell, whose forms are answered, or why there is none
 abbrev pub FormOf : List ℕ → Result File Fault → Type 0
-FormOf bytes (Ok f) = Spells bytes (file_tree f) × IsBuilt (file_tree f) × ((g : FileTree) → Spells bytes g → g ≡ file_tree f)
-FormOf bytes (Err (fault.Refused r)) = Refuses bytes r × ((f : FileTree) → Spells bytes f → ¬ IsBuilt f)
+FormOf bytes (Ok f) = Spells bytes (file_tree f) × IsAnswered (file_tree f) × ((g : FileTree) → Spells bytes g → g ≡ file_tree f)
+FormOf bytes (Err (fault.Refused r)) = Refuses bytes r × ((f : FileTree) → Spells bytes f → ¬ IsAnswered f)
 FormOf bytes (Err fault.NoMem) = Unit {0}
 
 -- the answers to problems, and their report

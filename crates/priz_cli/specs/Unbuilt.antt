@@ -1,4 +1,4 @@
--- The first token of a form that is not built yet.
+-- The first token of a form that is not answered yet.
 use Rattle.std.specs.Prelude.{◌≡◌, ℕ, Bool, true, false, ◌&&◌, List, [], ◌∷◌, ◌++◌, map, Option, Some, None}
 use Rattle.priz_base.specs.declared.place.Place.{Place}
 use Rattle.utopist_lexer.specs.declared.word.Word.{Word}

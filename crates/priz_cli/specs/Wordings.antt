@@ -28,5 +28,6 @@ abbrev pub rule_text : Rule → List ℕ
 rule_text rule.UnknownConcept = codes "unknown concept"
 rule_text rule.DuplicateName = codes "duplicate name"
 rule_text rule.UnknownPath = codes "unknown path"
+rule_text rule.ShadowedName = codes "shadowed name"
 rule_text rule.DuplicateInput = codes "duplicate input"
 rule_text (rule.TooMany l) = limit_text l

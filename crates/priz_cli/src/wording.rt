@@ -22,6 +22,7 @@ pub(crate) fn rule_text(rule: Rule) -> &'static [u8]
         Rule::UnknownConcept => b"unknown concept",
         Rule::DuplicateName => b"duplicate name",
         Rule::UnknownPath => b"unknown path",
+        Rule::ShadowedName => b"shadowed name",
         Rule::DuplicateInput => b"duplicate input",
         Rule::TooMany(limit) => limit_text(limit),
     }

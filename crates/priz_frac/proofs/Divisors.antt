@@ -1,8 +1,8 @@
 -- Laws of the greatest common divisor.
 use Rattle.std.proofs.Common.{◌≡◌, ℕ, zero, suc, ◌*◌, ◌/◌, ◌%◌, ◌<◌, ◌≤◌, refl, subst, arith}
 use Rattle.std.specs.Int.{IsGcd, ◌∣◌}
-use Rattle.std.proofs.Math.Nat.{mul-div_cancel', mul-dvd-mul_left, eq-zero_of_zero-dvd}
-use Rattle.std.proofs.lemmas.Nat.Gcd.{IsGcd-from_zero, IsGcd-from_mod, le_of_dvd}
+use Rattle.std.proofs.Math.Nat.{mul-div_cancel', mul-dvd-mul_left, eq-zero_of_zero-dvd, eq-one_of_dvd-one}
+use Rattle.std.proofs.lemmas.Nat.Gcd.{IsGcd-from_zero, IsGcd-from_mod, IsGcd-swap, same_from_IsGcd, le_of_dvd}
 use Rattle.priz_frac.specs.Gcd.{gcd, gcd_within}
 
 -- any count of steps from b on gives the same
@@ -53,6 +53,15 @@ at_most_one g (suc (suc d)) p q h = absurd (omega arith)
 pub gcd_is : (a b : ℕ) → IsGcd a b (gcd a b)
 unfolding gcd
 gcd_is a b = within_is b a b (omega arith)
+
+pub gcd_comm : (a b : ℕ) → gcd a b ≡ gcd b a
+gcd_comm a b = same_from_IsGcd a b (gcd a b) (gcd b a) (gcd_is a b) (IsGcd-swap b a (gcd b a) (gcd_is b a))
+
+pub gcd-one : (a b : ℕ) → b ≡ 1 → gcd a b ≡ 1
+gcd-one a b h = eq-one_of_dvd-one (subst (λ n. gcd a b ∣ n) h (gcd_is a b).1)
+
+pub gcd_within_right : (a b : ℕ) → 0 < b → gcd a b ≤ b
+gcd_within_right a b h = le_of_dvd h (gcd_is a b).1
 
 pub gcd-times_left : (a b : ℕ) → gcd a b * (a / gcd a b) ≡ a
 gcd-times_left a b = mul-div_cancel' (gcd a b) (gcd_is a b).0

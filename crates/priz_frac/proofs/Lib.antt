@@ -1,4 +1,10 @@
+pub mod Coprime
+pub mod Crossed
 pub mod Divisors
+pub mod Inverse
+pub mod Kept
 pub mod Lowest
-pub mod Products
+pub mod Multiples
+pub mod Operations
+pub mod Sums
 pub mod Unique

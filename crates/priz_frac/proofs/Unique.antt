@@ -1,34 +1,15 @@
 -- The same fractions have equal lowest terms, and only they.
-use Rattle.std.proofs.Common.{◌≡◌, ◌↔◌, ℕ, zero, suc, ◌+◌, ◌-◌, ◌*◌, ◌/◌, ◌%◌, ◌<◌, refl, sym, ap, ◌∙◌, subst, arith, ℤ, pos, negsuc}
+use Rattle.std.proofs.Common.{◌≡◌, ◌↔◌, ℕ, zero, suc, ◌*◌, ◌/◌, ◌<◌, refl, sym, ap, ◌∙◌, subst, arith, ℤ, pos, negsuc}
 use Rattle.std.specs.Prelude.{neg_ℤ, unsigned_abs, ◌*ℤ◌}
 use Rattle.std.specs.Int.{◌∣◌}
-use Rattle.std.proofs.Math.Nat.{mul-pos, dvd-sub, dvd-mul_left, dvd-mul_right, dvd-mul_right_of_dvd, mod-add-div, eq_of_mul-eq-mul_left, eq_of_mul-eq-mul_right}
+use Rattle.std.proofs.Math.Nat.{mul-pos, dvd-mul_left, eq_of_mul-eq-mul_left, eq_of_mul-eq-mul_right}
 use Rattle.std.proofs.lemmas.Nat.Gcd.{dvd_antisymm}
 use Rattle.priz_frac.specs.Ratio.{Ratio, IsSame}
-use Rattle.priz_frac.specs.Gcd.{gcd, gcd_within}
+use Rattle.priz_frac.specs.Gcd.{gcd}
 use Rattle.priz_frac.specs.Lowest.{low}
+use Rattle.priz_frac.proofs.Coprime.{cancel}
 use Rattle.priz_frac.proofs.Divisors.{gcd_positive, gcd-lowest, gcd-times_left, gcd-times_right, numerator_positive, quotient_positive}
-use Rattle.priz_frac.proofs.Lowest.{abs-neg}
-
-rest_times : (a b d : ℕ) → (a % suc b) * d ≡ a * d - suc b * d * (a / suc b)
-rest_times a b d =
-    let e = mod-add-div a (suc b) in
-    let f : (a % suc b + suc b * (a / suc b)) * d ≡ a * d = ap (λ n. n * d) e in
-    omega (arith, f)
-
--- what divides both multiples divides the multiple of the greatest common divisor
-within_times : (n a b d x : ℕ) → x ∣ a * d → x ∣ b * d → x ∣ gcd_within n a b * d
-within_times zero a b d x p q = p
-within_times (suc n) a zero d x p q = p
-within_times (suc n) a (suc b) d x p q =
-    within_times n (suc b) (a % suc b) d x q (subst (λ m. x ∣ m) (sym (rest_times a b d)) (dvd-sub x p (dvd-mul_right_of_dvd x q (a / suc b))))
-
--- a divisor that has no part in common with a divides the other factor
-cancel : (a b d : ℕ) → gcd a b ≡ 1 → b ∣ a * d → b ∣ d
-unfolding gcd
-cancel a b d e p =
-    let q : b ∣ gcd_within b a b * d = within_times b a b d b p (dvd-mul_right b d) in
-    subst (λ m. b ∣ m) (ap (λ g. g * d) e ∙ omega arith) q
+use Rattle.priz_frac.proofs.Lowest.{made, abs-neg}
 
 same_dens : (n d m e : ℕ) → gcd n d ≡ 1 → gcd m e ≡ 1 → n * e ≡ m * d → d ≡ e
 same_dens n d m e p q h =
@@ -51,9 +32,6 @@ same_parts n d m e pd pe h =
     let nums : n / g ≡ m / k = eq_of_mul-eq-mul_right (d / g) (quotient_positive n d pd) _ _ (ap (λ x. (n / g) * x) dens ∙ cross) in
     (nums, dens)
 
-abbrev made : ℤ → ℕ → Ratio
-made z d = record { num = z; den = d }
-
 not_below : (a k : ℕ) → 0 < k → pos a ≡ neg_ℤ (pos k) → ⊥
 not_below a zero h e = omega arith
 not_below a (suc k) h e = cc
@@ -62,7 +40,7 @@ same_abs : (a b : ℕ) → neg_ℤ (pos a) ≡ neg_ℤ (pos b) → a ≡ b
 same_abs a b e = sym (abs-neg a) ∙ ap unsigned_abs e ∙ abs-neg b
 
 -- the same fractions have the same lowest terms
-low_same : (x y : Ratio) → 0 < x.den → 0 < y.den → IsSame x y → low x ≡ low y
+pub low_same : (x y : Ratio) → 0 < x.den → 0 < y.den → IsSame x y → low x ≡ low y
 low_same x y p q h = by_signs x.num y.num x.den y.den p q h
   where
     by_signs : (a b : ℤ) (d e : ℕ) → 0 < d → 0 < e → IsSame (made a d) (made b e) → low (made a d) ≡ low (made b e)

@@ -23,6 +23,10 @@ abbrev pub ratio : ℤ → ℤ → Ratio
 ratio n (pos d) = record { num = n; den = d }
 ratio n (negsuc d) = record { num = neg_ℤ n; den = suc d }
 
+-- 1 / x where x is not 0
+abbrev pub inverse_of : Ratio → Ratio
+inverse_of x = ratio (pos x.den) x.num
+
 -- x / y where y is not 0
 abbrev pub quotient_of : Ratio → Ratio → Ratio
 quotient_of x y = ratio (x.num *ℤ pos y.den) (y.num *ℤ pos x.den)

@@ -8,9 +8,13 @@ use Rattle.priz_frac.specs.Arithmetic.{ratio, quotient_of}
 use Rattle.priz_frac.specs.Lowest.{low}
 use Rattle.priz_frac.specs.Narrow.{fits}
 
+-- x where it fits
+abbrev pub fitted : Ratio → Result Ratio FracFault
+fitted x = if fits x then Ok x else Err Width
+
 -- x in lowest terms, where they fit
 abbrev pub narrow : Ratio → Result Ratio FracFault
-narrow x = if fits (low x) then Ok (low x) else Err Width
+narrow x = fitted (low x)
 
 -- n / d in lowest terms, where d is not 0 and they fit
 abbrev pub narrow_ratio : ℤ → ℤ → Result Ratio FracFault

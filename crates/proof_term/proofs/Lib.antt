@@ -1,2 +1,7 @@
 pub mod Blocks
 pub mod Pushes
+mod LoopRounds
+mod LoopForms
+mod LocalPlaces
+mod NoCalls
+mod RunningSteps

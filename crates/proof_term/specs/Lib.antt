@@ -2,3 +2,9 @@ pub mod Proof
 pub mod Coding
 pub mod Plain
 pub mod Falls
+pub mod HasNoCall
+pub mod Agrees
+pub mod LocalValues
+pub mod Running
+pub mod HasBodies
+pub mod RunOf

@@ -2,13 +2,22 @@
 #![tactic(auto)]
 
 mod block;
+mod evaluate;
 mod laws;
+mod locals;
+mod numbers;
+mod run_stop;
+mod runner;
 mod step;
 #[cfg(test)]
 mod tests;
+#[cfg(test)]
+mod tests_runner;
 mod worked;
 
 pub use block::Block;
 pub use laws::proof_derives;
+pub use run_stop::RunStop;
+pub use runner::run_block;
 pub use step::{Step, Sub};
 pub use worked::{squares_sum_proved, unknown_result_refused};

@@ -10,7 +10,7 @@ use std::alloc::Global;
 use std::marker::Model;
 
 /// The variables of a problem that are known so far.
-#[derive(Debug, Drop)]
+#[derive(Drop)]
 pub struct Closure<'p> {
     problem: &'p Problem,
     known: VarSet,
@@ -19,9 +19,13 @@ pub struct Closure<'p> {
 }
 
 impl<'p> Model for Closure<'p> {
+    ghost use Rattle.std.specs.Coded.{codes};
+    ghost use Rattle.body_lang.specs.contracts.body.Body as body;
     ghost use Rattle.saturate.specs.Ready.{Progress};
 
     ghost Value = { Progress };
+
+    ghost coded = { Prim.hlevel (codes, body.the_row.coded) };
 
     ghost view = { λ c. record { task = c.problem.now; known = c.known } };
 

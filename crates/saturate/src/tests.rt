@@ -16,6 +16,7 @@ fn a_statement_is_ready_once_its_inputs_are_known(rt: HostRuntime) -> Result<(),
         inputs,
         subs,
         output: b,
+        body: None,
     })?;
     let mut closure = Closure::new(alloc, &problem)?;
     assert_eq!(rt; closure.next(), None);

@@ -23,6 +23,7 @@ statement_over_more n m le s h = record {
   inputs = more_vars n m s.inputs le h.inputs;
   subs = All-weaker (IsSubtaskOver n) (IsSubtaskOver m) (subtask_over_more n m le) s.subs h.subs;
   output = omega (arith, h.output);
+  body = h.body;
 }
 
 pub var_added : (p : Task) (name : List ℕ) → IsWellFormed p → var_count p < 1024 → (Contains p.names name → ⊥) → IsWellFormed (record p { names = p.names ++ name ∷ [] })

@@ -1,7 +1,9 @@
 -- Problems as their views show them.
-use Rattle.std.specs.Prelude.{◌≡◌, ◌≢◌, ℕ, ◌<◌, ◌≤◌, length, List, [], ◌∷◌, map, All, slice_get, Some}
+use Rattle.std.specs.Prelude.{◌≡◌, ◌≢◌, ℕ, ◌<◌, ◌≤◌, length, List, [], ◌∷◌, map, All, slice_get, Some, Ok, IfSome}
 use Rattle.std.specs.List.{AllPairs, sum_by}
 use Rattle.std.specs.Option.{option_map_or}
+use Rattle.body_lang.specs.View.{body_tree}
+use Rattle.body_lang.specs.Checked.{checked}
 use Rattle.statement_set.specs.declared.subtask.Subtask.{Subtask}
 use Rattle.statement_set.specs.declared.statement.Statement.{Statement}
 use Rattle.statement_set.specs.declared.given.Given.{Given}
@@ -52,11 +54,20 @@ pub record IsSubtaskOver (n : ℕ) (u : Subtask) : Type 0 where
   pub distinct : AllPairs (λ x y. x ≢ y) u.inputs
   pub output : u.output < n
 
+-- how many inputs each subtask of the statement has
+abbrev pub arities : Statement → List ℕ
+arities s = map (λ u. length u.inputs) s.subs
+
+-- the body, if there is one, takes the statement's inputs and calls its subtasks
+abbrev pub IsBodyOver : Statement → Type 0
+IsBodyOver s = IfSome s.body (λ b. checked (length s.inputs) (arities s) 0 (body_tree b) ≡ Ok tt)
+
 -- a statement over n variables
 pub record IsStatementOver (n : ℕ) (s : Statement) : Type 0 where
   pub inputs : AreVars n s.inputs
   pub subs : All (IsSubtaskOver n) s.subs
   pub output : s.output < n
+  pub body : IsBodyOver s
 
 -- names are distinct, each number that stands in the problem is a variable, none is given twice, and the limits are kept
 pub record IsWellFormed (p : Task) : Type 0 where

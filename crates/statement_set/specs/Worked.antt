@@ -1,5 +1,5 @@
 -- Small problems on which the definitions are tried.
-use Rattle.std.specs.Prelude.{ℕ, [], ◌∷◌, codes}
+use Rattle.std.specs.Prelude.{ℕ, [], ◌∷◌, codes, None}
 use Rattle.statement_set.specs.declared.subtask.Subtask.{Subtask}
 use Rattle.statement_set.specs.Problem.{Task}
 use Rattle.statement_set.specs.Formula.{atom, imp}
@@ -13,8 +13,8 @@ from_to u v = record { inputs = u ∷ []; output = v }
 abbrev pub squares_sum : Task
 squares_sum = record {
   names = codes "x" ∷ codes "y" ∷ codes "n" ∷ codes "t" ∷ [];
-  statements = record { inputs = 0 ∷ []; subs = []; output = 1 } ∷ record { inputs = 2 ∷ []; subs = from_to 0 1 ∷ []; output = 3 } ∷ [];
-  givens = record { var = 2 } ∷ [];
+  statements = record { inputs = 0 ∷ []; subs = []; output = 1; body = None } ∷ record { inputs = 2 ∷ []; subs = from_to 0 1 ∷ []; output = 3; body = None } ∷ [];
+  givens = record { var = 2; value = None } ∷ [];
   wants = 3 ∷ [];
 }
 
@@ -22,7 +22,7 @@ squares_sum = record {
 abbrev pub peirce : Task
 peirce = record {
   names = codes "p" ∷ codes "q" ∷ [];
-  statements = record { inputs = []; subs = from_to 0 1 ∷ []; output = 0 } ∷ [];
+  statements = record { inputs = []; subs = from_to 0 1 ∷ []; output = 0; body = None } ∷ [];
   givens = [];
   wants = 0 ∷ [];
 }

@@ -1,7 +1,9 @@
 ghost use Rattle.std.specs.Prelude.{◌≡◌, ℕ, ◌<◌, ◌≤◌, ◌+◌, ◌↔◌, [], ◌∷◌, ◌++◌, length, slice_get, Contains, IfOk, OnOk, OnErr, IsSome, IfSome, IsSomeAnd};
 ghost use Rattle.statement_set.specs.Problem.{Task, var_count, given_vars, subtasks_of, subtask_count, IsStatementOf, IsStatementOver, IsWellFormed, empty_task};
+ghost use Rattle.std.specs.Option.{option_copied};
 
 use crate::{Given, Names, Statement, SubView};
+use body_lang::Body;
 use priz_base::{NoMem, Var};
 use sqlite_items::Items;
 use std::alloc::Global;
@@ -10,7 +12,7 @@ use std::marker::Model;
 /// Named variables, statements and a goal.
 ///
 /// A variable, a statement and a subtask of a statement go by their numbers, in the order in which they were added.
-#[derive(Debug, Drop)]
+#[derive(Drop)]
 pub struct Problem {
     names: Names,
     statements: Items<Statement>,
@@ -19,9 +21,13 @@ pub struct Problem {
 }
 
 impl Model for Problem {
+    ghost use Rattle.std.specs.Coded.{codes};
+    ghost use Rattle.body_lang.specs.contracts.body.Body as body;
     ghost use Rattle.statement_set.specs.Problem.{Task, IsWellFormed};
 
     ghost Value = { Task };
+
+    ghost coded = { Prim.hlevel (codes, body.the_row.coded) };
 
     ghost view = { λ p. record { names = p.names; statements = p.statements; givens = p.givens; wants = p.wants } };
 
@@ -72,7 +78,8 @@ impl Problem {
         ensures ok { OnOk result (self.new ≡ record self.old { givens = self.old.givens ++ g ∷ [] }) }
         ensures err { OnErr result (self.new ≡ self.old) }
     {
-        self.givens.push(g)?;
+        let Given { var, value } = g;
+        self.givens.push(Given { var, value })?;
         Ok(())
     }
 
@@ -161,6 +168,14 @@ impl Problem {
         ensures { IsSomeAnd (slice_get self.now.statements s) (λ t. result ≡ t.output) }
     {
         self.statement(s).output
+    }
+
+    /// None where none was written.
+    pub fn body(&self, s: u32) -> Option<&Body>
+        requires { s < length self.now.statements }
+        ensures { IsSomeAnd (slice_get self.now.statements s) (λ t. option_copied result ≡ t.body) }
+    {
+        self.statement(s).body.as_ref()
     }
 
     pub fn givens(&self) -> &[Given]

@@ -12,8 +12,12 @@ fn what_was_added_is_shown(rt: HostRuntime) -> Result<(), Fail> {
         inputs: Items::new(alloc),
         subs: Items::new(alloc),
         output: v,
+        body: None,
     })?;
-    p.add_given(Given { var: v })?;
+    p.add_given(Given {
+        var: v,
+        value: None,
+    })?;
     p.add_want(v)?;
     let shown = (p.vars(), n, p.subs(n), p.givens().len(), p.wants().len());
     assert_eq!(rt; shown, (1, 0, 0, 1, 1));

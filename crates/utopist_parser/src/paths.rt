@@ -1,5 +1,5 @@
 //! Reading names and paths.
-ghost use Rattle.std.specs.Prelude.{◌≡◌, ◌<◌, length, IfOk};
+ghost use Rattle.std.specs.Prelude.{◌≡◌, ◌<◌, [], length, IfOk};
 ghost use Rattle.utopist_lexer.specs.declared.mark.Mark.TheVariants.{Comma, Dot};
 ghost use Rattle.utopist_parser.specs.Answers.{Gives};
 ghost use Rattle.utopist_parser.specs.Lists.{next_at, separated_at, names_at, path_at, paths_at};
@@ -9,7 +9,7 @@ ghost use Rattle.utopist_parser.specs.Symbols.{symbols};
 use crate::step::{fixed_at, name_at, next_is};
 use crate::stop::Stop;
 use sqlite_items::Items;
-use std::alloc::Global;
+use std::alloc::{AllocError, Global};
 use utopist_lexer::{Kind, Mark, Token};
 use utopist_syntax::{Name, Path};
 
@@ -47,7 +47,7 @@ fn separated_at<'t, 'a>(
     ensures shorter { IfOk result (λ x. length x.1.now < length tokens.entry.now) }
 {
     let (first, mut rest) = name_at(alloc, tokens)?;
-    let mut found = Items::new(alloc);
+    let mut found = room_for_one(alloc)?;
     found.push(first)?;
     'parts: while next_is(rest, Kind::Mark(separator)) {
         let (part, after) = next_name_at(alloc, rest, separator)?;
@@ -55,6 +55,13 @@ fn separated_at<'t, 'a>(
         rest = after;
     }
     Ok((found, rest))
+}
+
+// Most paths have one name: an expression of many paths is not to have room for more.
+fn room_for_one(alloc: Global) -> Result<Items<Name>, AllocError>
+    ensures { IfOk result (λ found. found ≡ []) }
+{
+    Ok(Items::from_vec(Vec::with_capacity(alloc, 1)?))
 }
 
 fn next_name_at<'t, 'a>(

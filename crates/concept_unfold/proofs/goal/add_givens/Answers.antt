@@ -60,7 +60,7 @@ loop-given-preserved c =
     let lt = c.loop-given-test.true in
     let is = c.given-item.is in
     let v = c.var_of-var.result in
-    let made : Given = record { var = v } in
+    let made : Given = record { var = v; value = g.value } in
     let e = c.in_ok-add_given.ensures.ok in
     let givens = ap (λ (r : Task). r.givens) e in
     let vars = ap (λ (r : Task). r.names) c.loop-given.invariant.same in
@@ -74,7 +74,7 @@ loop-given-preserved c =
     let after = passed_more whole (row ∷ []) (once_rows rule.DuplicateInput (names ++ n.text ∷ []) (given_names (drop (i + 1) gs))) (at_next rows whole gs i g lt is c.loop-given.invariant.passed) (one_holds row fresh) in
     record {
       same = given_step start p q made c.loop-given.invariant.same e;
-      givens = givens_more start.names gs i g p.givens q.givens made lt is c.loop-given.invariant.givens (ap (λ (w : ℕ). record { var = w }) var) givens;
+      givens = givens_more start.names gs i g p.givens q.givens made lt is c.loop-given.invariant.givens (ap (λ (w : ℕ). record { var = w; value = g.value }) var) givens;
       seen = λ m. rw givens (seen_more c.loop-given.seen c.add.new.self p.givens made c.add.ensures c.loop-given.invariant.seen m);
       passed = subst (λ (ts : List (List ℕ)). Passed whole (once_rows rule.DuplicateInput ts (given_names (drop (i + 1) gs)))) (sym (names_more gs i g lt is)) after;
     }

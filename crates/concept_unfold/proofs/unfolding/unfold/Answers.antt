@@ -5,6 +5,7 @@ use Rattle.statement_set.specs.declared.statement.Statement.{Statement}
 use Rattle.statement_set.specs.Problem.{Task}
 use Rattle.utopist_syntax.specs.declared.compute.Compute.{Compute}
 use Rattle.utopist_syntax.specs.FileTree.{ItemTree, item_tree, concept_tree, file_tree}
+use Rattle.concept_unfold.specs.Built.{IsBuiltItem}
 use Rattle.concept_unfold.specs.Paths.{given_paths, given_names}
 use Rattle.concept_unfold.specs.declared.fault.Rule.TheVariants as rule
 use Rattle.concept_unfold.specs.Declarations.{all_variables, items_of}
@@ -13,7 +14,7 @@ use Rattle.concept_unfold.specs.ConceptRules.{once_rows, items_rows}
 use Rattle.concept_unfold.specs.UnfoldingRules.{limit_rows, unfolding_rules}
 use Rattle.concept_unfold.specs.Unfolded.{AreKnown, problem_from, problem_of}
 use Rattle.concept_unfold.proofs.Passing.{all_left, passed_more, both_hold, fails_next, fails_last}
-use Rattle.concept_unfold.proofs.Follows.{concept_items, givens_known, wants_known, it_asks, stands, same_items, few_variables, few_statements, problem_is}
+use Rattle.concept_unfold.proofs.Follows.{concept_items, givens_known, wants_known, it_asks, stands, same_items, few_variables, few_nodes, few_statements, items_built, problem_is}
 use Rattle.concept_unfold.proofs.Whole.{whole, plain}
 use Rattle.concept_unfold.proofs.unfolding.unfold.Goals as goal
 
@@ -27,7 +28,9 @@ add_items-requires c =
     record {
       empty = c.new-problem.ensures;
       rules = subst (λ (is : List ItemTree). AllHold (items_rows [] [] is)) (sym same) (concept_items f c.args.which w there c.requires.rules);
+      built = subst (λ (is : List ItemTree). All IsBuiltItem is) (sym same) (items_built f.concepts w.name.text c.requires.built);
       names = few_variables w items c.in_ok-check_limits.ensures;
+      size = few_nodes w items c.in_ok-check_limits.ensures;
       statements = few_statements w items c.in_ok-check_limits.ensures;
     }
 

@@ -15,7 +15,7 @@ returns-in_err-first-clause-gives c =
 
 pub parts-init : goal.parts-init
 parts-init c = record {
-  gives = separated_first c.args.separator name_at _ _ _ _ _ c.new-found.ensures c.in_ok-push.ensures.ok c.in_ok-first.ensures.gives;
+  gives = separated_first c.args.separator name_at _ _ _ _ _ c.in_ok-found.ensures c.in_ok-push.ensures.ok c.in_ok-first.ensures.gives;
   shorter = c.in_ok-first.ensures.shorter;
 }
 

@@ -1,0 +1,4 @@
+pub mod Arguments
+pub mod ExactRuns
+pub mod KeptValues
+pub mod LowestValues

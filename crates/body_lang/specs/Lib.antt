@@ -1,0 +1,16 @@
+pub mod BodyTree
+pub mod View
+pub mod Checked
+pub mod Stop
+pub mod Mode
+pub mod Run
+pub mod Values
+pub mod Operation
+pub mod Rounds
+pub mod Meaning
+pub mod Follows
+pub mod Keeping
+pub mod Sample
+pub mod OperationExamples
+pub mod LoopExamples
+pub mod CallExamples

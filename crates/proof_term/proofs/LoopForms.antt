@@ -1,0 +1,55 @@
+-- The forms of loop, once their first two parts have values.
+use Rattle.std.proofs.Common.{◌≡◌, ℕ, List, pos, Ok, sym, ap, ◌∙◌}
+use Rattle.priz_frac.specs.Ratio.{Ratio}
+use Rattle.priz_frac.specs.Whole.{whole_of}
+use Rattle.body_lang.specs.declared.op.Op.TheVariants.{Add, Mul}
+use Rattle.body_lang.specs.declared.body.Body.{Body}
+use Rattle.body_lang.specs.declared.body.Body.TheViews as views
+use Rattle.body_lang.specs.declared.body.Body.TheVariants as variants
+use Rattle.body_lang.specs.declared.body.Body.TheFolds.{fold-roll-Body}
+use Rattle.body_lang.specs.declared.body.Body.TheOpen.{Body-F}
+use Rattle.body_lang.specs.BodyTree.{Tree, total, product, iterate}
+use Rattle.body_lang.specs.View.{node, body_tree}
+use Rattle.body_lang.specs.Mode.{narrowly}
+use Rattle.body_lang.specs.Meaning.{Answer, mean}
+use Rattle.body_lang.specs.Rounds.{rounds_between, replacements_for}
+use Rattle.body_lang.specs.Run.{Ran, then_with}
+use Rattle.body_lang.specs.Values.{whole}
+use Rattle.proof_term.specs.Agrees.{part_at}
+
+total_tree : (a b e : Body) → body_tree (views.Sum a b e) ≡ total (body_tree a) (body_tree b) (body_tree e)
+total_tree a b e = ap body_tree (sym (variants.rolls-Sum a b e)) ∙ fold-roll-Body Tree node (Body-F.Sum a b e)
+
+product_tree : (a b e : Body) → body_tree (views.Prod a b e) ≡ product (body_tree a) (body_tree b) (body_tree e)
+product_tree a b e = ap body_tree (sym (variants.rolls-Prod a b e)) ∙ fold-roll-Body Tree node (Body-F.Prod a b e)
+
+iterate_tree : (a b e : Body) → body_tree (views.Iter a b e) ≡ iterate (body_tree a) (body_tree b) (body_tree e)
+iterate_tree a b e = ap body_tree (sym (variants.rolls-Iter a b e)) ∙ fold-roll-Body Tree node (Body-F.Iter a b e)
+
+module _ (owner : ℕ) (answer : Answer) (inputs locals : List Ratio) where
+  abbrev pub means : Tree → ℕ → Ran
+  means b t = mean narrowly owner answer b inputs locals t
+
+  abbrev each : Tree → Ratio → ℕ → Ran
+  each e = part_at owner answer e inputs locals
+
+  module _ (body a b e : Body) (x y start : Ratio) (t u v : ℕ) (ea : means (body_tree a) t ≡ Ok (x, u)) (eb : means (body_tree b) u ≡ Ok (y, v)) where
+    pub sum_is : body ≡ views.Sum a b e → start ≡ whole (pos 0) → means (body_tree body) t ≡ rounds_between narrowly owner Add start (each (body_tree e)) (whole_of x) (whole_of y) v
+    sum_is is zero =
+        ap (λ o. means (body_tree o) t) is ∙ ap (λ o. means o t) (total_tree a b e)
+        ∙ ap (λ r. then_with r (λ p left. then_with (means (body_tree b) left) (λ q turns. rounds_between narrowly owner Add (whole (pos 0)) (each (body_tree e)) (whole_of p) (whole_of q) turns))) ea
+        ∙ ap (λ r. then_with r (λ q turns. rounds_between narrowly owner Add (whole (pos 0)) (each (body_tree e)) (whole_of x) (whole_of q) turns)) eb
+        ∙ ap (λ s. rounds_between narrowly owner Add s (each (body_tree e)) (whole_of x) (whole_of y) v) (sym zero)
+
+    pub product_is : body ≡ views.Prod a b e → start ≡ whole (pos 1) → means (body_tree body) t ≡ rounds_between narrowly owner Mul start (each (body_tree e)) (whole_of x) (whole_of y) v
+    product_is is one =
+        ap (λ o. means (body_tree o) t) is ∙ ap (λ o. means o t) (product_tree a b e)
+        ∙ ap (λ r. then_with r (λ p left. then_with (means (body_tree b) left) (λ q turns. rounds_between narrowly owner Mul (whole (pos 1)) (each (body_tree e)) (whole_of p) (whole_of q) turns))) ea
+        ∙ ap (λ r. then_with r (λ q turns. rounds_between narrowly owner Mul (whole (pos 1)) (each (body_tree e)) (whole_of x) (whole_of q) turns)) eb
+        ∙ ap (λ s. rounds_between narrowly owner Mul s (each (body_tree e)) (whole_of x) (whole_of y) v) (sym one)
+
+    pub iteration_is : body ≡ views.Iter a b e → means (body_tree body) t ≡ replacements_for narrowly owner (each (body_tree e)) x (whole_of y) v
+    iteration_is is =
+        ap (λ o. means (body_tree o) t) is ∙ ap (λ o. means o t) (iterate_tree a b e)
+        ∙ ap (λ r. then_with r (λ p left. then_with (means (body_tree b) left) (λ q turns. replacements_for narrowly owner (each (body_tree e)) p (whole_of q) turns))) ea
+        ∙ ap (λ r. then_with r (λ q turns. replacements_for narrowly owner (each (body_tree e)) x (whole_of q) turns)) eb

@@ -1,0 +1,49 @@
+-- A body that passes the check of a statement without subtasks calls nothing.
+use Rattle.std.proofs.Common.{◌≡◌, ℕ, suc, List, [], Option, Some, Ok, Err, refl, subst, length, map}
+use Rattle.std.specs.Prelude.{All, IfSome, slice_get}
+use Rattle.body_lang.specs.declared.body.Body.{Body}
+use Rattle.body_lang.specs.BodyTree.{Tree, num, input, local, neg, op, choice, total, product, iterate, call, count_of}
+use Rattle.body_lang.specs.View.{body_tree}
+use Rattle.body_lang.specs.Checked.{Verdict, and_then, checked, all_checked, call_checked}
+use Rattle.statement_set.specs.declared.statement.Statement.{Statement}
+use Rattle.statement_set.specs.declared.subtask.Subtask.{Subtask}
+use Rattle.statement_set.specs.Problem.{Task, IsStatementOver, IsWellFormed, var_count}
+use Rattle.statement_set.proofs.Lists.{all_at}
+use Rattle.proof_term.specs.HasNoCall.{HasNoCall}
+
+first_passes : (v w : Verdict) → and_then v w ≡ Ok tt → v ≡ Ok tt
+first_passes (Ok u) w e = refl
+first_passes (Err f) w e = absurd (cc)
+
+second_passes : (v w : Verdict) → and_then v w ≡ Ok tt → w ≡ Ok tt
+second_passes (Ok u) w e = e
+second_passes (Err f) w e = absurd (cc)
+
+calls_nothing : (n loops : ℕ) (t : Tree) → checked n [] loops t ≡ Ok tt → HasNoCall t
+calls_nothing n loops (num v) h = tt
+calls_nothing n loops (input i) h = tt
+calls_nothing n loops (local j) h = tt
+calls_nothing n loops (neg a) h = calls_nothing n loops a h
+calls_nothing n loops (op o a b) h = (calls_nothing n loops a (first_passes _ _ h), calls_nothing n loops b (second_passes _ _ h))
+calls_nothing n loops (choice c a b p q) h =
+    let after = second_passes _ _ h in
+    let branches = second_passes _ _ after in
+    (calls_nothing n loops a (first_passes _ _ h), (calls_nothing n loops b (first_passes _ _ after), (calls_nothing n loops p (first_passes _ _ branches), calls_nothing n loops q (second_passes _ _ branches))))
+calls_nothing n loops (total a b e) h =
+    let after = second_passes _ _ h in
+    (calls_nothing n loops a (first_passes _ _ h), (calls_nothing n loops b (first_passes _ _ after), calls_nothing n (suc loops) e (second_passes _ _ after)))
+calls_nothing n loops (product a b e) h =
+    let after = second_passes _ _ h in
+    (calls_nothing n loops a (first_passes _ _ h), (calls_nothing n loops b (first_passes _ _ after), calls_nothing n (suc loops) e (second_passes _ _ after)))
+calls_nothing n loops (iterate a b e) h =
+    let after = second_passes _ _ h in
+    (calls_nothing n loops a (first_passes _ _ h), (calls_nothing n loops b (first_passes _ _ after), calls_nothing n (suc loops) e (second_passes _ _ after)))
+calls_nothing n loops (call k args) h = let bad = first_passes (call_checked (slice_get {X = ℕ} [] k) (count_of args)) (all_checked n [] loops args) h in absurd (cc)
+
+-- the body of a statement without subtasks
+pub no_call : (p : Task) (n : ℕ) (s : Statement) (b : Body) → IsWellFormed p → All (λ (x : Statement). x.subs ≡ []) p.statements → slice_get p.statements n ≡ Some s → s.body ≡ Some b → HasNoCall (body_tree b)
+no_call p n s b good plain there is =
+    let over = (all_at (IsStatementOver (var_count p)) p.statements n s good.statements there).body in
+    let none = all_at (λ (x : Statement). x.subs ≡ []) p.statements n s plain there in
+    let its = subst (λ (o : Option Body). IfSome o (λ x. checked (length s.inputs) (map (λ (u : Subtask). length u.inputs) s.subs) 0 (body_tree x) ≡ Ok tt)) is over in
+    calls_nothing (length s.inputs) 0 (body_tree b) (subst (λ (us : List Subtask). checked (length s.inputs) (map (λ (u : Subtask). length u.inputs) us) 0 (body_tree b) ≡ Ok tt) none its)

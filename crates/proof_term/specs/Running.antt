@@ -1,0 +1,67 @@
+-- What a block gives: the values of the variables at its end, or the first stop.
+use Rattle.std.specs.Prelude.{ℕ, zero, suc, pos, List, [], ◌∷◌, length, map, slice_get, slice_set, replicate, None, unwrap_or, Result, Ok, Err}
+use Rattle.std.specs.Option.{option_map_or}
+use Rattle.priz_frac.specs.Ratio.{Ratio}
+use Rattle.body_lang.specs.BodyTree.{Tree, num}
+use Rattle.body_lang.specs.View.{body_tree}
+use Rattle.body_lang.specs.Mode.{narrowly}
+use Rattle.body_lang.specs.Values.{whole, value_at}
+use Rattle.body_lang.specs.Meaning.{Answer, mean}
+use Rattle.body_lang.specs.Run.{Ran, then_with, turn_then}
+use Rattle.body_lang.specs.Stop.{Stop, no_row}
+use Rattle.statement_set.specs.declared.subtask.Subtask.{Subtask}
+use Rattle.statement_set.specs.declared.statement.Statement.{Statement}
+use Rattle.statement_set.specs.Problem.{Task, given_vars}
+use Rattle.proof_term.specs.Proof.{Steps, done, step, Subs, no_more, known, block}
+
+-- an environment has a value for each variable, by its number
+abbrev pub Env : Type 0
+Env = List Ratio
+
+-- the statement of this number; one that gives nothing where there is none, which no step of a proof has
+abbrev pub statement_at : Task → ℕ → Statement
+statement_at p n = unwrap_or (slice_get p.statements n) (record { inputs = []; subs = []; output = 0; body = None })
+
+-- the tree of its body; 0 where there is none
+abbrev pub body_at : Task → ℕ → Tree
+body_at p n = option_map_or body_tree (statement_at p n).body (num (whole (pos 0)))
+
+-- the environment in which variables have these values
+abbrev pub with_values : Env → List ℕ → List Ratio → Env
+with_values e [] values = e
+with_values e (v ∷ vars) [] = e
+with_values e (v ∷ vars) (x ∷ values) = with_values (slice_set e v x) vars values
+
+-- a step: a turn, and then the body, whose value the output gets
+abbrev pub one_step : Task → ℕ → Answer → Env → ℕ → Result (Env × ℕ) Stop
+one_step p n answer e turns =
+    then_with (turn_then narrowly n turns (λ left. mean narrowly n answer (body_at p n) (map (value_at e) (statement_at p n).inputs) [] left))
+    (λ value left. Ok (slice_set e (statement_at p n).output value, left))
+
+abbrev mutual
+  -- the environment at the end of a block, whose steps are taken one after another
+  pub run : Task → Steps → Env → ℕ → Result (Env × ℕ) Stop
+  run p done e turns = Ok (e, turns)
+  run p (step n subs more) e turns =
+      then_with (one_step p n (λ k arguments rest. called p subs (statement_at p n).subs k e arguments rest) e turns) (λ next left. run p more next left)
+
+  -- what a call of the k-th subtask gives: the result's value in the environment, or at the end of the block that runs
+  -- with the arguments
+  pub called : Task → Subs → List Subtask → ℕ → Env → List Ratio → ℕ → Ran
+  called p no_more us k e arguments turns = Err no_row
+  called p (known more) [] k e arguments turns = Err no_row
+  called p (known more) (u ∷ us) zero e arguments turns = Ok (value_at e u.output, turns)
+  called p (known more) (u ∷ us) (suc k) e arguments turns = called p more us k e arguments turns
+  called p (block b more) [] k e arguments turns = Err no_row
+  called p (block b more) (u ∷ us) zero e arguments turns =
+      then_with (run p b (with_values e u.inputs arguments) turns) (λ end left. Ok (value_at end u.output, left))
+  called p (block b more) (u ∷ us) (suc k) e arguments turns = called p more us k e arguments turns
+
+-- where a run of the goal starts: what is given has its value
+abbrev pub start_of : Task → List Ratio → Env
+start_of p values = with_values (replicate (length p.names) (whole (pos 0))) (given_vars p) values
+
+-- the values of the wants, in order
+abbrev pub goal_values : Task → Steps → List Ratio → ℕ → Result (List Ratio × ℕ) Stop
+goal_values p b values turns =
+    then_with (run p b (start_of p values) turns) (λ end left. Ok (map (value_at end) p.wants, left))
