@@ -1,2 +1,4 @@
 pub mod Left
 pub mod Learnt
+pub mod Bodiless
+pub mod Numbers

@@ -1,4 +1,6 @@
 pub mod Answers
 pub mod Found
+pub mod Named
 pub mod Report
 pub mod Values
+pub mod Wordings

@@ -1,12 +1,16 @@
-ghost use Rattle.std.specs.Prelude.{◌≡◌, ◌≤◌, [], ◌∷◌, ◌++◌, OnOk};
+ghost use Rattle.std.specs.Prelude.{◌≡◌, ◌≤◌, ℕ, [], ◌∷◌, ◌++◌, length, OnOk};
+ghost use Rattle.utopist_syntax.specs.ComputeText.{fraction_text};
 ghost use Rattle.answer_core.specs.Answers.{IsAnswer};
-ghost use Rattle.answer_core.specs.Report.{head_text, kind_text, values_text, answer_text};
-ghost use Rattle.answer_core.specs.Values.{HasNames};
+ghost use Rattle.answer_core.specs.Report.{head_text, value_line, value_lines, fault_line, values_text, answer_text};
+ghost use Rattle.answer_core.specs.Named.{HasNames};
 
-use crate::verdict::{Answer, Values};
+use crate::wording::{fault_text, separate_text};
+use crate::{Answer, Values};
+use body_lang::RunFault;
 use cert_text::{write_proof, write_worlds};
 use itoa::Buffer;
 use priz_base::NoMem;
+use priz_frac::Frac;
 use statement_set::Problem;
 
 /// Appends the lines that report an answer. `index` is the number of the compute statement, from 1.
@@ -17,7 +21,7 @@ pub fn render(
     out: &mut Vec<u8>,
 ) -> Result<(), NoMem>
     requires index { 1 ≤ index }
-    requires answer { IsAnswer problem.now answer.now }
+    requires answer { (turns : ℕ) × IsAnswer problem.now turns answer.now }
     ensures { OnOk result (out.new.items ≡ out.old.items ++ answer_text problem.now index answer.now) }
 {
     problem.is_well_formed();
@@ -28,9 +32,9 @@ pub fn render(
             separate,
             values,
         } => {
-            out.extend_from_slice(kind_of(*separate))?;
+            out.extend_from_slice(separate_text(*separate))?;
             write_proof(block, out)?;
-            write_values(problem, *values, out)
+            write_values(problem, values, out)
         }
         Answer::NoProgram { worlds } => {
             out.extend_from_slice(b"no program\n")?;
@@ -48,27 +52,61 @@ fn write_head(index: u32, out: &mut Vec<u8>) -> Result<(), NoMem>
     Ok(())
 }
 
-fn kind_of(separate: bool) -> &'static [u8]
-    ensures { result.now ≡ kind_text separate }
+fn write_values(problem: &Problem, values: &Values, out: &mut Vec<u8>) -> Result<(), NoMem>
+    requires { HasNames problem.now values.now }
+    ensures { OnOk result (out.new.items ≡ out.old.items ++ values_text problem.now values.now) }
 {
-    if separate {
-        b"program separate\n"
-    } else {
-        b"program mixed\n"
+    match values {
+        Values::All(values) => write_all_values(problem, values.as_slice(), out),
+        Values::Fault { stmt, kind } => write_fault(*stmt, *kind, out),
+        Values::NoNumber(var) => write_line(b"no number: ", problem.name(*var).as_bytes(), out),
+        Values::NoBody(stmt) => {
+            let mut digits = Buffer::new();
+            write_line(b"no body: statement ", digits.format(*stmt).as_bytes(), out)
+        }
     }
 }
 
-fn write_values(problem: &Problem, values: Values, out: &mut Vec<u8>) -> Result<(), NoMem>
-    requires { HasNames problem.now values }
-    ensures { OnOk result (out.new.items ≡ out.old.items ++ values_text problem.now values) }
+fn write_all_values(problem: &Problem, values: &[Frac], out: &mut Vec<u8>) -> Result<(), NoMem>
+    requires { length values.now ≡ length problem.now.wants }
+    ensures { OnOk result (out.new.items ≡ out.old.items ++ value_lines problem.now problem.now.wants values.now) }
 {
-    match values {
-        Values::NoNumber(var) => write_line(b"no number: ", problem.name(var).as_bytes(), out),
-        Values::NoBody(stmt) => {
-            let mut digits = Buffer::new();
-            write_line(b"no body: statement ", digits.format(stmt).as_bytes(), out)
-        }
+    problem.is_well_formed();
+    for (i, want) in problem.wants().iter().enumerate() {
+        write_value(problem.name(*want), values[i], out)?;
     }
+    Ok(())
+}
+
+fn write_value(name: &str, value: Frac, out: &mut Vec<u8>) -> Result<(), NoMem>
+    ensures { OnOk result (out.new.items ≡ out.old.items ++ value_line name.now value) }
+{
+    out.extend_from_slice(name.as_bytes())?;
+    out.extend_from_slice(b" = ")?;
+    write_fraction(value, out)?;
+    out.push(b'\n')?;
+    Ok(())
+}
+
+// A denominator of 1 is left out.
+fn write_fraction(value: Frac, out: &mut Vec<u8>) -> Result<(), NoMem>
+    ensures { OnOk result (out.new.items ≡ out.old.items ++ fraction_text value) }
+{
+    out.extend_from_slice(Buffer::new().format(value.num()).as_bytes())?;
+    if value.den() == 1 {
+        return Ok(());
+    }
+    out.push(b'/')?;
+    out.extend_from_slice(Buffer::new().format(value.den()).as_bytes())?;
+    Ok(())
+}
+
+fn write_fault(stmt: u32, kind: RunFault, out: &mut Vec<u8>) -> Result<(), NoMem>
+    ensures { OnOk result (out.new.items ≡ out.old.items ++ fault_line stmt kind) }
+{
+    out.extend_from_slice(b"fault: statement ")?;
+    out.extend_from_slice(Buffer::new().format(stmt).as_bytes())?;
+    write_line(b": ", fault_text(kind), out)
 }
 
 fn write_line(front: &[u8], back: &[u8], out: &mut Vec<u8>) -> Result<(), NoMem>

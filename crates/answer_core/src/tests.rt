@@ -3,7 +3,7 @@ ghost use Rattle.std.specs.Prelude.{IfOk};
 ghost use Rattle.statement_set.specs.Problem.{IsWhole};
 ghost use Rattle.answer_core.specs.Answers.{IsPlain};
 
-use crate::{answer, render};
+use crate::{Effort, answer, render};
 use priz_base::NoMem;
 use sqlite_items::Items;
 use statement_set::{Given, Problem, Statement};
@@ -47,7 +47,7 @@ fn reports_a_program_or_a_refusal(rt: HostRuntime) -> Result<(), Fail> {
         (false, "compute 1: no program\nworlds 0\n"),
     ] {
         let problem = problem_of(alloc, given)?;
-        let found = answer(alloc, &problem)?;
+        let found = answer(alloc, &problem, &Effort { turns: 1 })?;
         let mut out = Vec::new(alloc);
         render(&problem, 1, &found, &mut out)?;
         assert_eq!(rt; out.as_slice(), want.as_bytes());

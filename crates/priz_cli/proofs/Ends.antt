@@ -4,6 +4,7 @@ use Rattle.std.specs.Prelude.{IfSome}
 use Rattle.std.specs.declared.option.Option.{Option}
 use Rattle.priz_base.specs.Reading.{max_input, TakesTooMany}
 use Rattle.utopist_syntax.specs.FileTree.{FileTree}
+use Rattle.answer_core.specs.declared.effort.Effort.{Effort}
 use Rattle.priz_cli.specs.declared.outcome.Outcome.{Outcome}
 use Rattle.priz_cli.specs.declared.outcome.Outcome.TheVariants as outcome
 use Rattle.priz_cli.specs.Accepted.{Accepts}
@@ -17,14 +18,14 @@ few_taken bytes (Some more) (taken, many, rest) few =
     omega arith
 
 -- accepted bytes are answered, or memory is wanted, or the outside failed
-pub answered : (o : Outcome) (left left' written written' : Option (List ℕ)) (read write : Type 0)
-    → Leaves o left left' written written' → o ≢ outcome.Usage → (o ≡ outcome.ReadFault → read) → (o ≡ outcome.WriteFault → write) → ¬ read → ¬ write
+pub answered : (asked : Option Effort) (o : Outcome) (left left' written written' : Option (List ℕ)) (read write : Type 0)
+    → Leaves asked o left left' written written' → o ≢ outcome.Usage → (o ≡ outcome.ReadFault → read) → (o ≡ outcome.WriteFault → write) → ¬ read → ¬ write
     → IfSome left (λ bytes. (f : FileTree) → Accepts bytes f → IsAnswered o)
-answered o None left' written written' read write h mode on_read on_write no_read no_write = tt
-answered (outcome.Solved answers) (Some bytes) left' written written' read write h mode on_read on_write no_read no_write = λ f a. tt
-answered outcome.Usage (Some bytes) left' written written' read write h mode on_read on_write no_read no_write = λ f a. mode refl
-answered (outcome.Refused r) (Some bytes) left' written written' read write h mode on_read on_write no_read no_write = λ f a. h.0.none f a
-answered outcome.InputTooLong (Some bytes) left' written written' read write h mode on_read on_write no_read no_write = λ f a. few_taken bytes left' h.0 a.few
-answered outcome.ReadFault (Some bytes) left' written written' read write h mode on_read on_write no_read no_write = λ f a. no_read (on_read refl)
-answered outcome.WriteFault (Some bytes) left' written written' read write h mode on_read on_write no_read no_write = λ f a. no_write (on_write refl)
-answered outcome.NoMem (Some bytes) left' written written' read write h mode on_read on_write no_read no_write = λ f a. tt
+answered asked o None left' written written' read write h mode on_read on_write no_read no_write = tt
+answered asked (outcome.Solved answers) (Some bytes) left' written written' read write h mode on_read on_write no_read no_write = λ f a. tt
+answered asked outcome.Usage (Some bytes) left' written written' read write h mode on_read on_write no_read no_write = λ f a. mode refl
+answered asked (outcome.Refused r) (Some bytes) left' written written' read write h mode on_read on_write no_read no_write = λ f a. h.0.none f a
+answered asked outcome.InputTooLong (Some bytes) left' written written' read write h mode on_read on_write no_read no_write = λ f a. few_taken bytes left' h.0 a.few
+answered asked outcome.ReadFault (Some bytes) left' written written' read write h mode on_read on_write no_read no_write = λ f a. no_read (on_read refl)
+answered asked outcome.WriteFault (Some bytes) left' written written' read write h mode on_read on_write no_read no_write = λ f a. no_write (on_write refl)
+answered asked outcome.NoMem (Some bytes) left' written written' read write h mode on_read on_write no_read no_write = λ f a. tt

@@ -1,3 +1,4 @@
+pub mod Numerals
 pub mod Joined
 pub mod Rows
 pub mod Unfolds
@@ -5,5 +6,6 @@ pub mod Answered
 pub mod Steps
 pub mod Ends
 pub mod UnbuiltTokens
+pub mod Watched
+mod BodyForms
 pub mod BuiltForms
-mod PlainForms

@@ -1,5 +1,5 @@
 -- Looking for the first token of a form that is not built, as a loop does.
-use Rattle.std.proofs.Common.{◌≡◌, ℕ, Bool, true, false, List, [], ◌∷◌, ◌++◌, map, Option, Some, None, refl, sym, ap, subst, ◌∙◌, append_assoc}
+use Rattle.std.proofs.Common.{◌≡◌, ℕ, Bool, true, false, List, [], ◌∷◌, ◌++◌, Option, Some, None, refl, sym, ap, subst, ◌∙◌, append_assoc}
 use Rattle.std.proofs.lemmas.List.{append-nil, map-append}
 use Rattle.priz_base.specs.declared.place.Place.{Place}
 use Rattle.utopist_lexer.specs.declared.token.Kind.{Kind}
@@ -8,11 +8,11 @@ use Rattle.utopist_lexer.specs.declared.fault.LexFault.{LexFault}
 use Rattle.utopist_lexer.specs.Gap.{past_gap}
 use Rattle.utopist_lexer.specs.Places.{Stands}
 use Rattle.utopist_lexer.specs.Lexical.{Tok}
-use Rattle.utopist_lexer.specs.Tokens.{ReadsTo, Reads}
+use Rattle.utopist_lexer.specs.Tokens.{ReadsTo}
 use Rattle.utopist_lexer.specs.Scanning.{Scan, place_of, tok, IsNext, IsEnd, IsFault}
 use Rattle.utopist_lexer.proofs.OneWay.{one_list, not_both}
 use Rattle.priz_cli.specs.declared.unbuilt.Context.{Context}
-use Rattle.priz_cli.specs.Unbuilt.{opens, behind, at_start, behind_all, NoneOpens, kinds_of, FirstUnbuilt, UnbuiltIn, found_with, UnbuiltOf}
+use Rattle.priz_cli.specs.Unbuilt.{opens, behind, at_start, behind_all, NoneOpens, kinds_of, UnbuiltIn, found_with, UnbuiltOf}
 
 pub none-append : (c : Context) (xs ys : List Kind) → NoneOpens c xs → NoneOpens (behind_all c xs) ys → NoneOpens c (xs ++ ys)
 none-append c [] ys h i = i
@@ -22,7 +22,11 @@ pub append-none : (c : Context) (xs ys : List Kind) → NoneOpens c (xs ++ ys) �
 append-none c [] ys h = h
 append-none c (x ∷ xs) ys h = append-none (behind c x) xs ys h.1
 
-behind-append : (c : Context) (xs ys : List Kind) → behind_all c (xs ++ ys) ≡ behind_all (behind_all c xs) ys
+pub none-front : (c : Context) (xs ys : List Kind) → NoneOpens c (xs ++ ys) → NoneOpens c xs
+none-front c [] ys h = tt
+none-front c (x ∷ xs) ys h = (h.0, none-front (behind c x) xs ys h.1)
+
+pub behind-append : (c : Context) (xs ys : List Kind) → behind_all c (xs ++ ys) ≡ behind_all (behind_all c xs) ys
 behind-append c [] ys = refl
 behind-append c (x ∷ xs) ys = behind-append (behind c x) xs ys
 

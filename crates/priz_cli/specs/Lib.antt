@@ -1,6 +1,5 @@
 pub mod Words
 pub mod Unbuilt
-pub mod Answered
 pub mod Accepted
 pub mod Refused
 pub mod Reports

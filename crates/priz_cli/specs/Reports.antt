@@ -11,12 +11,12 @@ use Rattle.answer_core.specs.Report.{answer_text}
 abbrev pub problems_of : FileTree → List Task
 problems_of f = map (problem_of f) f.computes
 
--- each problem has its answer, in order
-abbrev pub AreAnswers : List Task → List Answer → Type 0
-AreAnswers [] [] = Unit {0}
-AreAnswers [] (a ∷ answers) = ⊥
-AreAnswers (p ∷ problems) [] = ⊥
-AreAnswers (p ∷ problems) (a ∷ answers) = IsAnswer p a × AreAnswers problems answers
+-- each problem has its answer, in order, where a run may take so many turns
+abbrev pub AreAnswers : ℕ → List Task → List Answer → Type 0
+AreAnswers turns [] [] = Unit {0}
+AreAnswers turns [] (a ∷ answers) = ⊥
+AreAnswers turns (p ∷ problems) [] = ⊥
+AreAnswers turns (p ∷ problems) (a ∷ answers) = IsAnswer p turns a × AreAnswers turns problems answers
 
 -- the lines of each answer, the first of which has this number
 abbrev pub report_from : ℕ → List Task → List Answer → List ℕ

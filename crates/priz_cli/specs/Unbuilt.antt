@@ -1,4 +1,4 @@
--- The first token of a form that is not answered yet.
+-- The first token of a form that is not built yet.
 use Rattle.std.specs.Prelude.{◌≡◌, ℕ, Bool, true, false, ◌&&◌, List, [], ◌∷◌, ◌++◌, map, Option, Some, None}
 use Rattle.priz_base.specs.declared.place.Place.{Place}
 use Rattle.utopist_lexer.specs.declared.word.Word.{Word}
@@ -17,19 +17,17 @@ word_opens words.Is = true
 word_opens words.Eq = true
 word_opens w = false
 
--- whether a mark does: a body, a given's value, or a subtask
+-- whether a mark does: a subtask
 abbrev pub mark_opens : Mark → Bool
-mark_opens marks.OpenCurly = true
-mark_opens marks.Equal = true
 mark_opens marks.OpenSquare = true
 mark_opens m = false
 
--- whether a token does; a name does where it is the type of a variable
+-- whether a token does; a name does where it is the type of a variable, and a subtask's number where the subtask is called
 abbrev pub opens : Context → Kind → Bool
 opens c kinds.Name = c.in_var && c.behind_colon
 opens c (kinds.Word w) = word_opens w
 opens c (kinds.Number i) = false
-opens c (kinds.Sub i) = false
+opens c (kinds.Sub i) = true
 opens c (kinds.Mark m) = mark_opens m
 opens c kinds.End = false
 

@@ -1,11 +1,52 @@
--- The words of the command line.
-use Rattle.std.specs.Prelude.{◌≡◌, List, [], ◌∷◌, codes, string_bytes}
-use Rattle.std.specs.Global.{Global}
-use Rattle.std.specs.declared.string.String.{String}
+-- What the words of the command line ask for.
+use Rattle.std.specs.Prelude.{ℕ, Bool, true, false, List, [], ◌∷◌, ◌&&◌, if◌then◌else◌, nat_le, codes, Option, Some, None}
+use Rattle.std.specs.Option.{option_map}
+use Rattle.std.specs.Str.{bytes_eq}
+use Rattle.std.specs.Str.Parse.{digits_value}
+use Rattle.std.specs.Char.{is_ascii_digit}
+use Rattle.std.specs.List.{list_all}
+use Rattle.clap.specs.Words.{App, Rule, Text, Kinds, new_app, new_rule, with_rule, first_of, matches_of, fault_of}
+use Rattle.answer_core.specs.declared.effort.Effort.{Effort}
 
--- the program's name and `solve`
-abbrev pub IsSolve : List (String Global) → Type 0
-IsSolve [] = ⊥
-IsSolve (program ∷ []) = ⊥
-IsSolve (program ∷ mode ∷ []) = string_bytes mode ≡ codes "solve"
-IsSolve (program ∷ mode ∷ more ∷ words) = ⊥
+-- MODE
+abbrev pub mode_rule : Rule
+mode_rule = record (new_rule (codes "mode")) { required = true }
+
+-- [--turns N]
+abbrev pub turns_rule : Rule
+turns_rule = record (new_rule (codes "turns")) { long = Some (codes "turns") }
+
+-- a command of this name, without flags for help and version
+abbrev pub silent : Text → App
+silent name = let a = new_app name in record a { top = record a.top { disable_help_flag = true; disable_version_flag = true } }
+
+-- priz MODE [--turns N]
+abbrev pub command : App
+command = with_rule (with_rule (silent (codes "priz")) mode_rule) turns_rule
+
+-- the number that digits write, if it is from 1 to the greatest that is allowed
+abbrev pub number_to : ℕ → Text → Option ℕ
+number_to greatest text =
+    let n = digits_value 10 text in
+    if list_all is_ascii_digit text && (nat_le 1 n && nat_le n greatest) then Some n else None
+
+-- the turns that are asked for: 1,000,000 where none are, and at most 10,000,000
+abbrev pub turns_in : Option Text → Option ℕ
+turns_in None = Some 1000000
+turns_in (Some text) = number_to 10000000 text
+
+-- what is asked for where MODE and --turns have these texts; `solve` is the one mode
+abbrev pub effort_in : Option Text → Option Text → Option Effort
+effort_in None turns = None
+effort_in (Some mode) turns = if bytes_eq mode (codes "solve") then option_map (λ n. record { turns = n }) (turns_in turns) else None
+
+-- whether the command takes words that have these faults
+abbrev pub is_taken : Kinds → Bool
+is_taken [] = true
+is_taken (k ∷ ks) = false
+
+-- what the words ask for, the first of which is the program's name; or none, where it is nothing that the program does
+abbrev pub effort_of : List Text → Option Effort
+effort_of words =
+    if is_taken (fault_of command words) then effort_in (first_of (codes "mode") (matches_of command words)) (first_of (codes "turns") (matches_of command words))
+    else None

@@ -10,6 +10,8 @@ mod refusal;
 mod solution;
 #[cfg(test)]
 mod tests;
+#[cfg(test)]
+mod tests_numbers;
 mod top;
 mod unbuilt;
 mod wording;

@@ -8,7 +8,7 @@ ghost use Rattle.priz_cli.specs.Steps.{Solves, SolutionOf};
 
 use crate::fault::Fault;
 use crate::problems::problems_of;
-use answer_core::{Answer, answer, render};
+use answer_core::{Answer, Effort, answer, render};
 use priz_base::NoMem;
 use sqlite_items::Items;
 use statement_set::Problem;
@@ -23,25 +23,25 @@ pub(crate) struct Solution {
 }
 
 /// Answers the compute statements of a file.
-pub(crate) fn solution_of(alloc: Global, file: &File) -> Result<Solution, Fault>
+pub(crate) fn solution_of(alloc: Global, file: &File, effort: &Effort) -> Result<Solution, Fault>
     requires built { IsBuilt (file_tree file.now) }
     requires wants { AllAsk (file_tree file.now) }
-    ensures { SolutionOf (file_tree file.now) result }
+    ensures { SolutionOf effort.now.turns (file_tree file.now) result }
 {
     let problems = problems_of(alloc, file)?;
-    Ok(solve(alloc, problems.as_slice())?)
+    Ok(solve(alloc, problems.as_slice(), effort)?)
 }
 
-fn solve(alloc: Global, problems: &[Problem]) -> Result<Solution, NoMem>
+fn solve(alloc: Global, problems: &[Problem], effort: &Effort) -> Result<Solution, NoMem>
     requires few { length problems.now ≤ 64 }
     requires whole { All IsWhole problems.now }
     requires plain { All IsPlain problems.now }
-    ensures { IfOk result (Solves problems.now) }
+    ensures { IfOk result (Solves effort.now.turns problems.now) }
 {
     let mut answers = Items::new(alloc);
     let mut report = Vec::new(alloc);
     for (at, problem) in problems.iter().enumerate() {
-        let answer = answer(alloc, problem)?;
+        let answer = answer(alloc, problem, effort)?;
         render(problem, at as u32 + 1, &answer, &mut report)?;
         answers.push(answer)?;
     }

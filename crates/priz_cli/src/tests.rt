@@ -116,12 +116,21 @@ fn says_why_there_is_none(rt: HostRuntime) -> Result<(), Fail> {
             "line 1, column 23: unexpected token",
         ),
         (
-            "concept c : ( rel r : a -> b { a }; );",
-            "line 1, column 30: unexpected token",
+            "concept c : ( var a, b : numeric; rel r : a -> b { $1(a) }; );",
+            "line 1, column 52: unexpected token",
         ),
         (
-            "compute c : ( given a = 1; find b );",
-            "line 1, column 23: unexpected token",
+            "concept c : ( var a, b : numeric; rel r : [a -> b] -> b { $1(a) }; );",
+            "line 1, column 43: unexpected token",
+        ),
+        // Bodies.
+        (
+            "concept c : ( var a, b, s : numeric; rel r : a -> b { a + c }; );",
+            "line 1, column 59: unknown path",
+        ),
+        (
+            "concept c : ( var a, b, s : numeric; rel r : a -> b { sum(s, 1, a, s) }; );",
+            "line 1, column 59: shadowed name",
         ),
         // The rules of unfolding come behind those of concepts, and before the first answer.
         (

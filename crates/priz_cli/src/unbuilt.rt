@@ -23,8 +23,10 @@ impl Context {
         match kind {
             Kind::Name => self.in_var && self.behind_colon,
             Kind::Word(word) => matches!(word, Word::Is | Word::Eq),
-            Kind::Mark(mark) => matches!(mark, Mark::OpenCurly | Mark::Equal | Mark::OpenSquare),
-            Kind::Number(_) | Kind::Sub(_) | Kind::End => false,
+            Kind::Mark(mark) => matches!(mark, Mark::OpenSquare),
+            // A call of a subtask.
+            Kind::Sub(_) => true,
+            Kind::Number(_) | Kind::End => false,
         }
     }
 

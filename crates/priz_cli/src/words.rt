@@ -1,12 +1,81 @@
-ghost use Rattle.std.specs.Prelude.{◌↔◌, IsTrue};
-ghost use Rattle.priz_cli.specs.Words.{IsSolve};
+//! The words of the command line.
+ghost use Rattle.std.specs.Prelude.{◌≡◌, ◌==◌, IfOk, map, string_bytes, option_map, slice_index};
+ghost use Rattle.clap.specs.Words.{app_of};
+ghost use Rattle.priz_cli.specs.Words.{command, number_to, turns_in, effort_in, effort_of};
 
-/// Whether the words ask for `solve`. The first word is the program's name.
-pub fn is_solve(words: &[String]) -> bool
-    ensures { IsTrue result ↔ IsSolve words.now }
+use answer_core::Effort;
+use clap::error::ErrorKind;
+use clap::{Arg, Command};
+use priz_base::NoMem;
+use std::alloc::{AllocError, Global};
+
+/// What the words ask for; none, where it is nothing that the program does. The first word is the program's name.
+pub(crate) fn effort_of(alloc: Global, words: &[String]) -> Result<Option<Effort>, NoMem>
+    ensures { IfOk result (λ e. e ≡ effort_of (map string_bytes words.now)) }
 {
-    match words {
-        [_, mode] => mode.as_str() == "solve",
-        _ => false,
+    let command = command(alloc)?;
+    match command.try_get_matches_from(words) {
+        Ok(matches) => Ok(effort_in(matches.get_str("mode"), matches.get_str("turns"))),
+        Err(error) => match error.kind() {
+            ErrorKind::OutOfMemory => Err(NoMem),
+            _ => Ok(None),
+        },
     }
+}
+
+fn command<'a>(alloc: Global) -> Result<Command<'a>, AllocError>
+    ensures { IfOk result (λ c. app_of c ≡ command) }
+{
+    let mode = Arg::new(alloc, "mode").required(true);
+    let turns = Arg::new(alloc, "turns").long("turns");
+    Command::new(alloc, "priz")
+        .disable_help_flag(true)
+        .disable_version_flag(true)
+        .arg(mode)?
+        .arg(turns)
+}
+
+fn effort_in(mode: Option<&str>, turns: Option<&str>) -> Option<Effort>
+    ensures { result ≡ effort_in (option_map (λ t. t.now) mode.entry) (option_map (λ t. t.now) turns.entry) }
+{
+    match mode {
+        Some("solve") => {
+            let turns = turns_in(turns)?;
+            Some(Effort { turns })
+        }
+        _ => None,
+    }
+}
+
+const USUAL_TURNS: u32 = 1_000_000;
+
+const MOST_TURNS: u32 = 10_000_000;
+
+fn turns_in(turns: Option<&str>) -> Option<u32>
+    ensures { result ≡ turns_in (option_map (λ t. t.now) turns.entry) }
+{
+    match turns {
+        Some(text) => number_to(MOST_TURNS, text),
+        None => Some(USUAL_TURNS),
+    }
+}
+
+// The number that digits write, from 1 to the greatest that is allowed.
+fn number_to(greatest: u32, text: &str) -> Option<u32>
+    ensures { result ≡ number_to greatest text.now }
+{
+    // `parse` takes a plus, too.
+    if begins_with_plus(text) {
+        return None;
+    }
+    match text.parse::<u32>() {
+        Ok(number) if 1 <= number && number <= greatest => Some(number),
+        _ => None,
+    }
+}
+
+fn begins_with_plus(text: &str) -> bool
+    ensures { result ≡ (slice_index text.now 0 == 43) }
+{
+    matches!(text.as_bytes(), [b'+', ..])
 }

@@ -6,11 +6,11 @@ use Rattle.answer_core.specs.declared.search.Found.{Found}
 use Rattle.answer_core.specs.Found.{IsFound}
 use Rattle.answer_core.proofs.solve.answer.Goals as goal
 
-pub returns-in-Derived : goal.returns-in-Derived
-returns-in-Derived c =
+pub returns-in_ok-values-in-Derived : goal.returns-in_ok-values-in-Derived
+returns-in_ok-values-in-Derived c =
     let p = c.args.problem.now in
     let proof = subst (λ (f : Found). IsFound p f) c.in-Derived.is c.in_ok-block.ensures in
-    record { proof = proof; derivable = derivable p (given_vars p) c.in-Derived.block proof; separate = refl; values = c.values_of-values.ensures }
+    record { proof = proof; derivable = derivable p (given_vars p) c.in-Derived.block proof; separate = refl; values = c.in_ok-values-in-Derived.ensures }
 
 pub returns-in-Refuted : goal.returns-in-Refuted
 returns-in-Refuted c =

@@ -1,6 +1,5 @@
-use Rattle.std.proofs.Common.{ℕ, List, Ok, Err, Some, None, Option, subst}
+use Rattle.std.proofs.Common.{ℕ, List, Ok, Err, Some, None, subst}
 use Rattle.std.specs.Str.{chars}
-use Rattle.priz_base.specs.declared.place.Place.{Place}
 use Rattle.utopist_parser.specs.Forms.{ParseOf}
 use Rattle.std.proofs.lemmas.Result.{err_from_is_err_and}
 use Rattle.priz_cli.specs.Unbuilt.{UnbuiltOf}

@@ -4,6 +4,6 @@ use Rattle.priz_cli.proofs.solution.solve.Given as goal
 
 abbrev pub invariant-loop-at : goal.invariant-loop-at
 invariant-loop-at l = record {
-  answers : AreAnswers (take l.at l.problems) l.answers;
+  answers : AreAnswers l.effort.turns (take l.at l.problems) l.answers;
   report : l.report.items ≡ report_of (take l.at l.problems) l.answers;
 }

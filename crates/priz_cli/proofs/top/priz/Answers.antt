@@ -1,9 +1,10 @@
+use Rattle.std.proofs.Common.{Some}
 use Rattle.priz_base.specs.Faults.{Rose}
 use Rattle.priz_cli.proofs.Ends.{answered}
 use Rattle.priz_cli.proofs.top.priz.Goals as goal
 
-pub returns-clause-complete : goal.returns-clause-complete
-returns-clause-complete g c = λ words no_read no_write.
-    answered c.solve.result (g.S.Source.left c.args.source.now) (g.S.Source.left c.solve.new.source) (g.K.Sink.written c.args.sink.now) (g.K.Sink.written c.solve.new.sink)
+pub returns-in-Ok-Some-clause-complete : goal.returns-in-Ok-Some-clause-complete
+returns-in-Ok-Some-clause-complete g c = λ words no_read no_write.
+    answered (Some c.in-Ok-Some.effort) c.solve.result (g.S.Source.left c.args.source.now) (g.S.Source.left c.solve.new.source) (g.K.Sink.written c.args.sink.now) (g.K.Sink.written c.solve.new.sink)
     (Rose (g.S.Source.faults c.args.source.now) (g.S.Source.faults c.solve.new.source)) (Rose (g.K.Sink.faults c.args.sink.now) (g.K.Sink.faults c.solve.new.sink))
     c.solve.ensures.outcome c.solve.ensures.mode c.solve.ensures.read c.solve.ensures.write no_read no_write
