@@ -43,12 +43,23 @@ Leaves asked outcome.WriteFault left left' written written' =
 -- at most one byte more than the limit was read
 Leaves asked outcome.NoMem left left' written written' = Takes (max_input + 1) left left' × Keeps written written'
 
--- The same with the message behind it, whole, or in part where the count of the sink rose after the report.
+-- no report was to be written
+abbrev pub IsUnwritten : Outcome → Type 0
+IsUnwritten (outcome.Solved answers) = ⊥
+IsUnwritten outcome.Usage = Unit {0}
+IsUnwritten (outcome.Refused r) = Unit {0}
+IsUnwritten outcome.InputTooLong = Unit {0}
+IsUnwritten outcome.ReadFault = Unit {0}
+IsUnwritten outcome.WriteFault = ⊥
+IsUnwritten outcome.NoMem = Unit {0}
+
+-- The same with the message behind it, whole, or in part where the count of the sink rose after the report; before the
+-- message it rises only where a report is written.
 -- Before and now are the counts at the start and at the end.
 abbrev pub RunLeaves : Option Effort → Outcome → Option (List ℕ) → Option (List ℕ) → Option (List ℕ) → Option (List ℕ) → ℕ → ℕ → Type 0
 RunLeaves asked o left left' written written' before now =
     (mid : Option (List ℕ)) × (count : ℕ) × Leaves asked o left left' written mid
-    × (before ≤ count) × (count ≤ now) × (o ≡ outcome.WriteFault → Rose before count)
+    × (before ≤ count) × (count ≤ now) × (o ≡ outcome.WriteFault → Rose before count) × (IsUnwritten o → count ≡ before)
     × (Appends mid written' (message_of o) ⊎ (WritesPart mid written' (message_of o) × Rose count now))
 
 -- the words are refused, or memory was wanted

@@ -4,7 +4,7 @@ ghost use Rattle.priz_base.specs.Reading.{max_input};
 ghost use Rattle.utopist_syntax.specs.FileTree.{FileTree};
 ghost use Rattle.priz_cli.specs.Words.{effort_of};
 ghost use Rattle.priz_cli.specs.Accepted.{Accepts};
-ghost use Rattle.priz_cli.specs.Outcomes.{Leaves, RunLeaves, IsUsage, IsAnswered};
+ghost use Rattle.priz_cli.specs.Outcomes.{Leaves, RunLeaves, IsUsage, IsUnwritten, IsAnswered};
 ghost use Rattle.priz_cli.specs.Steps.{AcceptedOf};
 
 use crate::fault::Fault;
@@ -28,6 +28,7 @@ pub fn run<S: Source, K: Sink>(
     ensures usage { effort_of (map string_bytes words.now) ≡ None → IsUsage result }
     ensures untouched { result ≡ Outcome.Usage → S.faults source.new ≡ S.faults source.old }
     ensures read { result ≡ Outcome.ReadFault → Rose (S.faults source.old) (S.faults source.new) }
+    ensures write { result ≡ Outcome.WriteFault → Rose (K.faults sink.old) (K.faults sink.new) }
     ensures later_source { S.faults source.old ≤ S.faults source.new }
     ensures later_sink { K.faults sink.old ≤ K.faults sink.new }
     ensures complete { IsSome (effort_of (map string_bytes words.now)) → ¬ Rose (S.faults source.old) (S.faults source.new) → ¬ Rose (K.faults sink.old) (K.faults sink.new) → IfSome (S.left source.old) (λ bytes. (f : FileTree) → Accepts bytes f → IsAnswered result) }
@@ -46,7 +47,8 @@ pub fn priz<S: Source, K: Sink>(
 ) -> Outcome
     ensures outcome { Leaves (effort_of (map string_bytes words.now)) result (S.left source.old) (S.left source.new) (K.written sink.old) (K.written sink.new) }
     ensures usage { effort_of (map string_bytes words.now) ≡ None → IsUsage result }
-    ensures untouched { result ≡ Outcome.Usage → (S.faults source.new ≡ S.faults source.old) × (K.faults sink.new ≡ K.faults sink.old) }
+    ensures untouched { result ≡ Outcome.Usage → S.faults source.new ≡ S.faults source.old }
+    ensures unwritten { IsUnwritten result → K.faults sink.new ≡ K.faults sink.old }
     ensures read { result ≡ Outcome.ReadFault → Rose (S.faults source.old) (S.faults source.new) }
     ensures write { result ≡ Outcome.WriteFault → Rose (K.faults sink.old) (K.faults sink.new) }
     ensures later_source { S.faults source.old ≤ S.faults source.new }
@@ -70,6 +72,7 @@ fn solve<S: Source, K: Sink>(
     ensures mode { result ≢ Outcome.Usage }
     ensures read { result ≡ Outcome.ReadFault → Rose (S.faults source.old) (S.faults source.new) }
     ensures write { result ≡ Outcome.WriteFault → Rose (K.faults sink.old) (K.faults sink.new) }
+    ensures unwritten { IsUnwritten result → K.faults sink.new ≡ K.faults sink.old }
     ensures later_source { S.faults source.old ≤ S.faults source.new }
     ensures later_sink { K.faults sink.old ≤ K.faults sink.new }
 {

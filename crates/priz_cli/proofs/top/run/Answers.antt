@@ -19,5 +19,6 @@ returns-clause-outcome g c =
       c.priz-outcome.ensures.later_sink,
       c.message.ensures.later,
       c.priz-outcome.ensures.write,
+      c.priz-outcome.ensures.unwritten,
       either c.message.result (Appends mid last (message_of o)) (WritesPart mid last (message_of o)) (Rose count now) c.message.ensures.whole c.message.ensures.part c.message.ensures.fault,
     )
