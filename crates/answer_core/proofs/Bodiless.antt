@@ -1,65 +1,23 @@
 -- The first step of a block that has no body.
 use Rattle.std.proofs.Common.{◌≡◌, ℕ, ◌+◌, ◌<◌, ◌≤◌, Bool, true, false, cond, List, [], ◌∷◌, ◌++◌, length, drop, get_or, Option, Some, None, refl, sym, ap, ◌∙◌}
 use Rattle.std.specs.Prelude.{All, IsSome, IsSomeAnd, find, not, is_some, slice_get, unwrap_or}
-use Rattle.std.specs.Option.{option_or, option_copied}
+use Rattle.std.specs.Option.{option_copied}
 use denote.Bor.{Bor}
 use Rattle.std.proofs.lemmas.List.{drop_all}
 use Rattle.std.proofs.lemmas.List.Elements.{All-nil, All-cons}
-use Rattle.std.proofs.lemmas.List.Folds.{find-append}
 use Rattle.priz_base.proofs.More.{drop_at, some_below}
 use Rattle.body_lang.specs.declared.body.Body.{Body}
 use Rattle.statement_set.specs.declared.statement.Statement.{Statement}
 use Rattle.statement_set.specs.declared.subtask.Subtask.{Subtask}
-use Rattle.statement_set.specs.Problem.{Task}
+use Rattle.statement_set.specs.Problem.{Task, IsPlain}
 use Rattle.statement_set.proofs.Lists.{some_and, all_at}
 use Rattle.proof_term.specs.declared.step.Step.{Step}
 use Rattle.proof_term.specs.Proof.{Steps, done, step, Subs, no_more, known, block, proves, answers}
 use Rattle.proof_term.specs.Plain.{subs_of, steps_of}
-use Rattle.proof_term.specs.HasBodies.{HasBodies, SubsHaveBodies}
 use Rattle.priz_base.specs.Sets.{IsWithin}
-use Rattle.answer_core.specs.Answers.{IsPlain}
-use Rattle.answer_core.specs.Values.{statements_in, statements_in_all, lacks_body, first_without_body}
-
--- none is found where none is found at the front and none behind it
-none_first : {X : Type 0} (f : X → Bool) (x : X) (xs : List X) → find f (x ∷ xs) ≡ None → (f x ≡ false) × (find f xs ≡ None)
-none_first {X} f x xs h = by (f x) (find f xs) h where
-  by : (b : Bool) (o : Option X) → cond b (Some x) o ≡ None → (b ≡ false) × (o ≡ None)
-  by true o h = absurd (cc)
-  by false o h = (refl, h)
-
-none_both : {X : Type 0} (f : X → Bool) (xs ys : List X) → find f (xs ++ ys) ≡ None → (find f xs ≡ None) × (find f ys ≡ None)
-none_both {X} f xs ys h = by (find f xs) (find f ys) (sym (find-append f xs ys) ∙ h) where
-  by : (o q : Option X) → option_or o q ≡ None → (o ≡ None) × (q ≡ None)
-  by None q h = (refl, h)
-  by (Some x) q h = absurd (cc)
+use Rattle.proof_term.specs.Bodies.{first_without_body, statements_in, statements_in_all, lacks_body}
 
 module _ (p : Task) where
-  has_body : (n : ℕ) → lacks_body p n ≡ false → IsSomeAnd (slice_get p.statements n) (λ s. IsSome s.body)
-  has_body n h = by (slice_get p.statements n) h where
-    some : (o : Option Body) → not (is_some o) ≡ false → IsSome o
-    some None h = absurd (cc)
-    some (Some b) h = refl
-
-    by : (o : Option Statement) → not (is_some (unwrap_or o (record { inputs = []; subs = []; output = 0; body = None })).body) ≡ false → IsSomeAnd o (λ s. IsSome s.body)
-    by None h = absurd (cc)
-    by (Some s) h = some s.body h
-
-  -- where no step is found each has a body
-  mutual
-    pub bodies_of : (b : Steps) → find (lacks_body p) (statements_in b) ≡ None → HasBodies p b
-    bodies_of done h = tt
-    bodies_of (step n subs more) h =
-        let here = none_first (lacks_body p) n (statements_in_all subs ++ statements_in more) h in
-        let both = none_both (lacks_body p) (statements_in_all subs) (statements_in more) here.1 in
-        (has_body n here.0, (bodies_of_all subs both.0, bodies_of more both.1))
-
-    bodies_of_all : (subs : Subs) → find (lacks_body p) (statements_in_all subs) ≡ None → SubsHaveBodies p subs
-    bodies_of_all no_more h = tt
-    bodies_of_all (known more) h = bodies_of_all more h
-    bodies_of_all (block b more) h =
-        let both = none_both (lacks_body p) (statements_in b) (statements_in_all more) h in
-        (bodies_of b both.0, bodies_of_all more both.1)
-
   -- a step of a proof is that of a statement, and has no answers where no statement has a subtask
   pub record IsPlainStep (s : Step) : Type 0 where
     pub within : s.stmt < length p.statements

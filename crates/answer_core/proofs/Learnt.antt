@@ -6,7 +6,7 @@ use Rattle.priz_base.specs.Sets.{Adds, IsWithin}
 use Rattle.priz_base.proofs.More.{some_below}
 use Rattle.priz_base.proofs.Members.{contains_here, contains_there}
 use Rattle.statement_set.specs.declared.statement.Statement.{Statement}
-use Rattle.statement_set.specs.Problem.{Task, var_count, given_vars, AreVars, IsStatementOver, IsWellFormed}
+use Rattle.statement_set.specs.Problem.{Task, var_count, given_vars, AreVars, IsStatementOver, IsWellFormed, IsPlain}
 use Rattle.statement_set.specs.Countermodel.{IsCountermodelFrom}
 use Rattle.statement_set.proofs.Lists.{some_and, all_at, some_lacked}
 use Rattle.statement_set.proofs.Obeys.{one_world}
@@ -14,7 +14,6 @@ use Rattle.proof_term.specs.Proof.{Steps, no_more, proves, push}
 use Rattle.proof_term.proofs.Pushes.{proves_fewer, proves_push}
 use Rattle.saturate.specs.Ready.{IsReady, ReadyAt}
 use Rattle.saturate.proofs.Closed.{closed}
-use Rattle.answer_core.specs.Answers.{IsPlain}
 use Rattle.answer_core.proofs.Left.{left, less_left}
 
 -- two lists with the same members

@@ -1,5 +1,5 @@
 -- What an answer to a problem is.
-use Rattle.std.specs.Prelude.{◌≡◌, ℕ, List, [], All, Bool, IsTrue}
+use Rattle.std.specs.Prelude.{ℕ, List, Bool, IsTrue}
 use Rattle.statement_set.specs.Problem.{Task}
 use Rattle.statement_set.specs.Goal.{IsDerivable}
 use Rattle.statement_set.specs.Countermodel.{IsCountermodel}
@@ -8,10 +8,6 @@ use Rattle.answer_core.specs.declared.values.Values.{Values}
 use Rattle.answer_core.specs.declared.verdict.Answer.{Answer}
 use Rattle.answer_core.specs.declared.verdict.Answer.TheVariants as answer
 use Rattle.answer_core.specs.Values.{IsValues}
-
--- no statement has a subtask
-abbrev pub IsPlain : Task → Type 0
-IsPlain p = All (λ s. s.subs ≡ []) p.statements
 
 -- the block is a proof of the goal, which is derivable, and computes these values in so many turns; it is separate, since
 -- no statement has a subtask

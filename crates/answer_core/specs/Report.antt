@@ -2,7 +2,7 @@
 use Rattle.std.specs.Prelude.{ℕ, List, [], ◌∷◌, ◌++◌, codes, decimal, slice_index_or}
 use Rattle.priz_frac.specs.Ratio.{Ratio}
 use Rattle.body_lang.specs.declared.run_fault.RunFault.{RunFault}
-use Rattle.utopist_syntax.specs.ComputeText.{fraction_text}
+use Rattle.utopist_syntax.specs.FractionText.{fraction_text}
 use Rattle.statement_set.specs.Problem.{Task, var_count}
 use Rattle.cert_text.specs.BlockText.{proof_line}
 use Rattle.cert_text.specs.WorldText.{worlds_line}

@@ -1,5 +1,4 @@
 ghost use Rattle.std.specs.Prelude.{◌≡◌, ◌≤◌, ℕ, [], ◌∷◌, ◌++◌, length, OnOk};
-ghost use Rattle.utopist_syntax.specs.ComputeText.{fraction_text};
 ghost use Rattle.answer_core.specs.Answers.{IsAnswer};
 ghost use Rattle.answer_core.specs.Report.{head_text, value_line, value_lines, fault_line, values_text, answer_text};
 ghost use Rattle.answer_core.specs.Named.{HasNames};
@@ -12,6 +11,7 @@ use itoa::Buffer;
 use priz_base::NoMem;
 use priz_frac::Frac;
 use statement_set::Problem;
+use utopist_syntax::print_fraction;
 
 /// Appends the lines that report an answer. `index` is the number of the compute statement, from 1.
 pub fn render(
@@ -83,21 +83,8 @@ fn write_value(name: &str, value: Frac, out: &mut Vec<u8>) -> Result<(), NoMem>
 {
     out.extend_from_slice(name.as_bytes())?;
     out.extend_from_slice(b" = ")?;
-    write_fraction(value, out)?;
+    print_fraction(value, out)?;
     out.push(b'\n')?;
-    Ok(())
-}
-
-// A denominator of 1 is left out.
-fn write_fraction(value: Frac, out: &mut Vec<u8>) -> Result<(), NoMem>
-    ensures { OnOk result (out.new.items ≡ out.old.items ++ fraction_text value) }
-{
-    out.extend_from_slice(Buffer::new().format(value.num()).as_bytes())?;
-    if value.den() == 1 {
-        return Ok(());
-    }
-    out.push(b'/')?;
-    out.extend_from_slice(Buffer::new().format(value.den()).as_bytes())?;
     Ok(())
 }
 

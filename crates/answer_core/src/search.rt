@@ -1,8 +1,7 @@
 ghost use Rattle.std.specs.Prelude.{◌≡◌, ◌<◌, ◌≤◌, ℕ, ◌↔◌, [], ◌∷◌, All, Contains, IfOk, IsTrue};
 ghost use Rattle.priz_base.specs.Sets.{IsWithin};
-ghost use Rattle.statement_set.specs.Problem.{given_vars, AreVars, var_count};
+ghost use Rattle.statement_set.specs.Problem.{given_vars, AreVars, var_count, IsPlain};
 ghost use Rattle.statement_set.specs.Countermodel.{IsCountermodel, RefutesAlone};
-ghost use Rattle.answer_core.specs.Answers.{IsPlain};
 ghost use Rattle.answer_core.specs.Found.{IsFound};
 
 use kripke_check::Worlds;

@@ -1,6 +1,6 @@
 ghost use Rattle.std.specs.Prelude.{IfOk};
-ghost use Rattle.statement_set.specs.Problem.{IsWhole};
-ghost use Rattle.answer_core.specs.Answers.{IsPlain, IsAnswer};
+ghost use Rattle.statement_set.specs.Problem.{IsPlain};
+ghost use Rattle.answer_core.specs.Answers.{IsAnswer};
 
 use crate::search::{Found, search};
 use crate::values::values_of;
@@ -11,8 +11,7 @@ use std::alloc::Global;
 
 /// A program with its proof and what it computes, or a refusal with its countermodel.
 pub fn answer(alloc: Global, problem: &Problem, effort: &Effort) -> Result<Answer, NoMem>
-    requires whole { IsWhole problem.now }
-    requires plain { IsPlain problem.now }
+    requires { IsPlain problem.now }
     ensures { IfOk result (IsAnswer problem.now effort.now.turns) }
 {
     match search(alloc, problem)? {

@@ -1,7 +1,6 @@
 // The reports of a problem that can be computed and of one that can't.
 ghost use Rattle.std.specs.Prelude.{IfOk};
-ghost use Rattle.statement_set.specs.Problem.{IsWhole};
-ghost use Rattle.answer_core.specs.Answers.{IsPlain};
+ghost use Rattle.statement_set.specs.Problem.{IsPlain};
 
 use crate::{Effort, answer, render};
 use priz_base::NoMem;
@@ -11,8 +10,7 @@ use std::alloc::Global;
 use std::test::Fail;
 
 fn problem_of(alloc: Global, given: bool) -> Result<Problem, NoMem>
-    ensures whole { IfOk result IsWhole }
-    ensures plain { IfOk result IsPlain }
+    ensures { IfOk result IsPlain }
 {
     let mut problem = Problem::new(alloc);
     let a = problem.add_var("a")?;

@@ -1,8 +1,9 @@
 ghost use Rattle.std.specs.Prelude.{◌≡◌, IfOk, None};
 ghost use Rattle.std.specs.Vec.{vec_items};
 ghost use Rattle.proof_term.specs.Proof.{ProvesGoal};
-ghost use Rattle.answer_core.specs.Answers.{IsPlain};
-ghost use Rattle.answer_core.specs.Values.{AreNumbers, first_without_number, first_without_body, IsValues};
+ghost use Rattle.statement_set.specs.Problem.{IsPlain};
+ghost use Rattle.answer_core.specs.Values.{AreNumbers, first_without_number, IsValues};
+ghost use Rattle.proof_term.specs.Bodies.{first_without_body};
 
 use crate::Effort;
 use body_lang::RunFault;

@@ -6,7 +6,7 @@ use Rattle.priz_frac.specs.Ratio.{Ratio}
 use Rattle.priz_frac.specs.Arithmetic.{sum_of, difference_of, product_of, quotient_of, negative_of}
 use Rattle.priz_frac.specs.Lowest.{low}
 use Rattle.priz_frac.specs.Narrow.{fits}
-use Rattle.priz_frac.specs.Whole.{whole_of}
+use Rattle.priz_frac.specs.Whole.{whole_of, whole}
 use Rattle.priz_frac.specs.declared.fault.FracFault.{FracFault}
 use Rattle.priz_frac.specs.declared.fault.FracFault.TheVariants as frac
 use Rattle.body_lang.specs.declared.op.Op.{Op}
@@ -19,7 +19,7 @@ use Rattle.body_lang.specs.Operation.{operate, as_run, holds, value_in}
 use Rattle.body_lang.specs.Rounds.{one_round, rounds, round_count, rounds_between, replacements, replacements_for}
 use Rattle.body_lang.specs.Run.{Ran, then_with, then_both}
 use Rattle.body_lang.specs.Stop.{Stop, no_row}
-use Rattle.body_lang.specs.Values.{whole, value_at}
+use Rattle.body_lang.specs.Values.{value_at}
 
 -- the same run with another number of turns left
 abbrev with_turns : {A : Type 0} → ℕ → Result (A × ℕ) Stop → Result (A × ℕ) Stop

@@ -5,7 +5,7 @@ use Rattle.std.proofs.lemmas.Int.{ints}
 use Rattle.std.proofs.lemmas.List.Elements.{All-append, All-cons, All-nil}
 use Rattle.priz_frac.specs.Ratio.{Ratio}
 use Rattle.priz_frac.specs.Arithmetic.{negative_of}
-use Rattle.priz_frac.specs.Whole.{whole_of}
+use Rattle.priz_frac.specs.Whole.{whole_of, whole}
 use Rattle.priz_frac.specs.declared.fault.FracFault.{FracFault}
 use Rattle.body_lang.specs.declared.op.Op.{Op}
 use Rattle.body_lang.specs.declared.op.Op.TheVariants.{Add, Mul}
@@ -17,7 +17,7 @@ use Rattle.body_lang.specs.Operation.{operate, as_run, holds}
 use Rattle.body_lang.specs.Rounds.{one_round, rounds, round_count, rounds_between, replacements, replacements_for}
 use Rattle.body_lang.specs.Run.{Ran, then_with, then_both}
 use Rattle.body_lang.specs.Stop.{Stop}
-use Rattle.body_lang.specs.Values.{whole, value_at}
+use Rattle.body_lang.specs.Values.{value_at}
 
 -- what a property has to fulfil: constants, negatives, the operators' values and the variables of loops have it
 pub record IsKept (P : Ratio → Type 0) (mode : Mode) : Type 0 where

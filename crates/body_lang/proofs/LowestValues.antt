@@ -10,7 +10,7 @@ use Rattle.priz_frac.specs.Arithmetic.{sum_of, difference_of, product_of, negati
 use Rattle.priz_frac.specs.Gcd.{gcd}
 use Rattle.priz_frac.specs.Lowest.{low, IsLowest}
 use Rattle.priz_frac.specs.Narrow.{widest, fits, IsNarrow}
-use Rattle.priz_frac.specs.Whole.{whole_of}
+use Rattle.priz_frac.specs.Whole.{whole_of, whole}
 use Rattle.priz_frac.specs.declared.fault.FracFault.TheVariants as frac
 use Rattle.priz_frac.proofs.Lowest.{low_is_lowest}
 use Rattle.body_lang.specs.declared.op.Op.{Op}
@@ -18,7 +18,6 @@ use Rattle.body_lang.specs.declared.op.Op.TheVariants.{Add, Sub, Mul, Div}
 use Rattle.body_lang.specs.Mode.{Mode, narrowly, exactly}
 use Rattle.body_lang.specs.Operation.{value_in, operate}
 use Rattle.body_lang.specs.Rounds.{round_count}
-use Rattle.body_lang.specs.Values.{whole}
 use Rattle.body_lang.proofs.KeptValues.{IsKept}
 
 whole_is_lowest : (z : ℤ) → IsLowest (whole z)

@@ -1,22 +1,14 @@
 -- What is wrong with a body: its first bad node, from left to right, a node before its parts.
-use Rattle.std.specs.Prelude.{ℕ, suc, List, Bool, true, false, Option, Some, None, Result, Ok, Err, slice_get, nat_lt, ◌==◌}
+use Rattle.std.specs.Prelude.{ℕ, suc, List, Option, Some, None, Ok, Err, slice_get, nat_lt, ◌==◌}
 use Rattle.body_lang.specs.declared.body_fault.BodyFault.{BodyFault}
 use Rattle.body_lang.specs.declared.body_fault.BodyFault.TheVariants.{BadInput, BadLocal, BadCall, BadArity}
+use Rattle.body_lang.specs.Verdicts as verdicts
+pub use Rattle.body_lang.specs.Verdicts.{and_then, fault_unless}
 use Rattle.body_lang.specs.BodyTree.{Tree, Trees, num, input, local, neg, op, choice, total, product, iterate, call, none, more, count_of}
 
 -- nothing, or what is wrong with the first bad node
 abbrev pub Verdict : Type 0
-Verdict = Result (Unit {0}) BodyFault
-
--- the first verdict, or the second where nothing is wrong
-abbrev pub and_then : Verdict → Verdict → Verdict
-and_then (Ok u) next = next
-and_then (Err e) next = Err e
-
--- the fault, where the test fails
-abbrev pub fault_unless : Bool → BodyFault → Verdict
-fault_unless true e = Ok tt
-fault_unless false e = Err e
+Verdict = verdicts.Verdict BodyFault
 
 -- a call of a subtask with so many inputs, where there is one
 abbrev pub call_checked : Option ℕ → ℕ → Verdict

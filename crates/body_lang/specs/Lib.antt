@@ -1,6 +1,8 @@
 pub mod BodyTree
 pub mod View
+pub mod Verdicts
 pub mod Checked
+pub mod Reads
 pub mod Stop
 pub mod Mode
 pub mod Run

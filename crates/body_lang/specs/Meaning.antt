@@ -2,7 +2,7 @@
 use Rattle.std.specs.Prelude.{ℕ, List, [], ◌∷◌, ◌++◌, pos, if◌then◌else◌, Result, Ok}
 use Rattle.priz_frac.specs.Ratio.{Ratio}
 use Rattle.priz_frac.specs.Arithmetic.{negative_of}
-use Rattle.priz_frac.specs.Whole.{whole_of}
+use Rattle.priz_frac.specs.Whole.{whole_of, whole}
 use Rattle.body_lang.specs.declared.op.Op.TheVariants.{Add, Mul}
 use Rattle.body_lang.specs.BodyTree.{Tree, Trees, num, input, local, neg, op, choice, total, product, iterate, call, none, more}
 use Rattle.body_lang.specs.Mode.{Mode}
@@ -10,7 +10,7 @@ use Rattle.body_lang.specs.Operation.{operate, as_run, holds}
 use Rattle.body_lang.specs.Rounds.{rounds_between, replacements_for}
 use Rattle.body_lang.specs.Run.{Ran, then_with, then_both}
 use Rattle.body_lang.specs.Stop.{Stop}
-use Rattle.body_lang.specs.Values.{whole, value_at}
+use Rattle.body_lang.specs.Values.{value_at}
 
 -- what a call of the subtask of this number gives for its arguments, with so many turns left
 abbrev pub Answer : Type 0

@@ -6,7 +6,7 @@ use Rattle.body_lang.specs.declared.run_fault.RunFault.TheVariants.{ZeroDivisor,
 use Rattle.body_lang.specs.BodyTree.{input, neg, op, choice}
 use Rattle.body_lang.specs.Mode.{narrowly, exactly}
 use Rattle.body_lang.specs.Sample.{number, half, by_zero, too_wide, run, gives, stops}
-use Rattle.body_lang.specs.Values.{whole}
+use Rattle.priz_frac.specs.Whole.{whole}
 
 -- 4 - 5 is -1, and -(4 - 5) is 1
 abbrev pub InputsAreRead : Type 0

@@ -8,7 +8,7 @@ use Rattle.body_lang.specs.Mode.{Mode}
 use Rattle.body_lang.specs.Operation.{operate, as_run}
 use Rattle.body_lang.specs.Run.{Ran, then_with, turn_then}
 use Rattle.body_lang.specs.Stop.{fault}
-use Rattle.body_lang.specs.Values.{whole}
+use Rattle.priz_frac.specs.Whole.{whole}
 
 -- a turn, and then the part that the loop repeats, at its variable's value
 abbrev pub one_round : Mode → ℕ → (Ratio → ℕ → Ran) → Ratio → ℕ → Ran

@@ -8,7 +8,7 @@ use Rattle.body_lang.specs.Meaning.{mean, Answer}
 use Rattle.body_lang.specs.Mode.{Mode}
 use Rattle.body_lang.specs.Run.{Ran}
 use Rattle.body_lang.specs.Stop.{fault, no_row}
-use Rattle.body_lang.specs.Values.{whole}
+use Rattle.priz_frac.specs.Whole.{whole}
 
 -- the number n
 abbrev pub number : ℕ → Tree

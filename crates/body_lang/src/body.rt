@@ -4,8 +4,9 @@ use sqlite_items::{Boxed, Items};
 
 /// An expression of a statement's inputs, which gives the value of its output.
 ///
-/// Its parts are taken from left to right, and the first fault ends the run. A body that
-/// `check_body` passes reads no input, local or subtask that is not there.
+/// Its parts are taken from left to right, and the first fault ends the run. `check_body` passes it
+/// just where the number of each input is below the count of inputs, that of each local below the
+/// count of the loops around it, and each call has a subtask with as many inputs as it has arguments.
 #[derive(Drop)]
 pub enum Body {
     Num(Frac),

@@ -1,7 +1,8 @@
 ghost use Rattle.std.specs.Prelude.{◌≡◌, ℕ, suc, ◌^◌, min, slice_get};
 ghost use Rattle.body_lang.specs.BodyTree.{count_of};
 ghost use Rattle.body_lang.specs.View.{body_tree, body_trees};
-ghost use Rattle.body_lang.specs.Checked.{checked, all_checked, call_checked, fault_unless};
+ghost use Rattle.body_lang.specs.Verdicts.{fault_unless};
+ghost use Rattle.body_lang.specs.Checked.{checked, all_checked, call_checked};
 
 use crate::{Body, BodyFault};
 use sqlite_items::at;

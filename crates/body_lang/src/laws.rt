@@ -1,9 +1,11 @@
 // A law has no code: its contract is the law.
-ghost use Rattle.std.specs.Prelude.{ℕ, List};
+ghost use Rattle.std.specs.Prelude.{◌≡◌, ◌↔◌, ℕ, List, Ok};
 ghost use Rattle.priz_frac.specs.Ratio.{Ratio};
 ghost use Rattle.priz_frac.specs.Lowest.{IsLowest};
 ghost use Rattle.priz_frac.specs.Narrow.{IsNarrow};
 ghost use Rattle.body_lang.specs.BodyTree.{Tree};
+ghost use Rattle.body_lang.specs.Checked.{checked};
+ghost use Rattle.body_lang.specs.Reads.{IsClosed};
 ghost use Rattle.body_lang.specs.Meaning.{Answer, mean};
 ghost use Rattle.body_lang.specs.Mode.{Mode, narrowly, exactly};
 ghost use Rattle.body_lang.specs.Keeping.{MeaningKeeps};
@@ -53,4 +55,9 @@ pub fn exact_meaning_ends_in_the_narrow_value()
 pub fn values_are_in_lowest_terms()
     ensures lowest { (mode : Mode) → MeaningKeeps IsLowest mode }
     ensures narrow { MeaningKeeps IsNarrow narrowly }
+{}
+
+/// A body passes the check just where all that it reads is there.
+pub fn checked_bodies_read_what_is_there()
+    ensures { (inputs : ℕ) (arities : List ℕ) (loops : ℕ) (body : Tree) → (checked inputs arities loops body ≡ Ok tt) ↔ IsClosed inputs arities loops body }
 {}

@@ -19,8 +19,8 @@ pub use check::check_body;
 pub use cmp::Cmp;
 pub use equation::Equation;
 pub use laws::{
-    bodies_mean_what_they_should, exact_meaning_ends_in_the_narrow_value,
-    values_are_in_lowest_terms,
+    bodies_mean_what_they_should, checked_bodies_read_what_is_there,
+    exact_meaning_ends_in_the_narrow_value, values_are_in_lowest_terms,
 };
 pub use loop_kind::LoopKind;
 pub use op::Op;

@@ -18,7 +18,8 @@ use Rattle.utopist_syntax.specs.declared.compute.GivenPath.{GivenPath}
 use Rattle.utopist_syntax.specs.declared.file.File.{File}
 use Rattle.utopist_syntax.specs.FileTree.{item_tree, concept_tree, file_tree}
 use Rattle.utopist_syntax.specs.ConceptText.{parents_text, item_line, concept_text}
-use Rattle.utopist_syntax.specs.ComputeText.{fraction_text, value_text, given_text, givens_text, compute_text}
+use Rattle.utopist_syntax.specs.FractionText.{fraction_text}
+use Rattle.utopist_syntax.specs.ComputeText.{value_text, given_text, givens_text, compute_text}
 use Rattle.utopist_syntax.specs.Canonical.{canonical}
 use Rattle.canonical_reading.specs.Piece.{Piece, HasPieces, mark, number, comma}
 use Rattle.canonical_reading.specs.ItemPieces.{item_pieces}

@@ -1,8 +1,10 @@
 -- The faults of bodies.
-use Rattle.std.proofs.Common.{◌≡◌, ℕ, Bool, true, false, not, List, [], ◌∷◌, ◌++◌, Option, Some, None, Ok, Err, refl, sym, ap, ◌∙◌, subst}
+use Rattle.std.proofs.Common.{◌≡◌, ℕ, true, not, List, [], ◌∷◌, ◌++◌, Option, Some, None, Ok, Err, refl, sym, ap, ◌∙◌, subst}
 use Rattle.std.specs.Prelude.{All, Contains}
 use Rattle.std.proofs.lemmas.List.Elements.{All-contains, All-cons, All-weaker}
 use Rattle.priz_base.proofs.Members.{contains_here, contains_there}
+use Rattle.body_lang.specs.Verdicts.{Verdict, fault_unless}
+use Rattle.body_lang.proofs.Verdicts.{first_passes, second_passes, both_pass, test_passes}
 use Rattle.utopist_syntax.specs.Named.{Named}
 use Rattle.utopist_syntax.specs.Tree.{Tree, num, path, neg, op, choice, loop, call}
 use Rattle.utopist_syntax.specs.View.{tree_of}
@@ -12,7 +14,7 @@ use Rattle.concept_unfold.specs.Paths.{first_of}
 use Rattle.concept_unfold.specs.declared.fault.Rule.{Rule}
 use Rattle.concept_unfold.specs.declared.fault.Rule.TheVariants as rule
 use Rattle.concept_unfold.specs.declared.fault.ModelFault.{ModelFault}
-use Rattle.concept_unfold.specs.BodyFault.{Verdict, and_then, fault_unless, is_among, is_readable, expr_fault, IsFaultless}
+use Rattle.concept_unfold.specs.BodyFault.{broken_at, is_among, is_readable, expr_fault, IsFaultless}
 use Rattle.concept_unfold.specs.declared.loops.Loops.TheVariants as loops
 use Rattle.concept_unfold.specs.declared.loops.Loops.TheFolds.{fold-roll-Loops}
 use Rattle.concept_unfold.specs.declared.loops.Loops.TheOpen.{Loops-F}
@@ -23,22 +25,6 @@ use Rattle.concept_unfold.proofs.Passing.{none_hold, first_holds, one_fails}
 use Rattle.concept_unfold.proofs.Places.{false_of}
 use Rattle.concept_unfold.proofs.Among.{among, listed}
 
-pub first_ok : (v w : Verdict) → and_then v w ≡ Ok tt → v ≡ Ok tt
-first_ok (Ok u) w e = refl
-first_ok (Err f) w e = absurd (cc)
-
-pub second_ok : (v w : Verdict) → and_then v w ≡ Ok tt → w ≡ Ok tt
-second_ok (Ok u) w e = e
-second_ok (Err f) w e = absurd (cc)
-
-both_ok : (v w : Verdict) → v ≡ Ok tt → w ≡ Ok tt → and_then v w ≡ Ok tt
-both_ok v w e d = ap (λ x. and_then x w) e ∙ d
-
--- the test holds where there is no fault
-pub passes : (b : Bool) (n : Named) (r : Rule) → fault_unless b n r ≡ Ok tt → b ≡ true
-passes true n r e = refl
-passes false n r e = absurd (cc)
-
 no_loops : loop_names loops.Outermost ≡ []
 no_loops = ap loop_names (sym loops.rolls-Outermost) ∙ fold-roll-Loops (List (List ℕ)) name_before Loops-F.Outermost
 
@@ -46,26 +32,26 @@ no_loops = ap loop_names (sym loops.rolls-Outermost) ∙ fold-roll-Loops (List (
 pub body_fails : (names inputs : List (List ℕ)) (b : Option Expr) (e : Expr) (f : ModelFault) → b ≡ Some e → Err f ≡ expr_fault (record { taken = loop_names loops.Outermost ++ names; inputs = inputs; rounds = loop_names loops.Outermost }) (tree_of e) → FirstFailing (body_rows names inputs (body_tree b)) f
 body_fails names inputs b e f is found =
     let row : Row = record { place = f.place; rule = f.rule; check = never } in
-    subst (λ (x : Option Expr). FirstFailing (body_rows names inputs (body_tree x)) f) (sym is) (subst (λ (v : Verdict). FirstFailing (fault_rows v) f) (found ∙ ap (λ ls. expr_fault (record { taken = ls ++ names; inputs = inputs; rounds = ls }) (tree_of e)) no_loops) (one_fails row f (λ h. h) refl refl))
+    subst (λ (x : Option Expr). FirstFailing (body_rows names inputs (body_tree x)) f) (sym is) (subst (λ (v : Verdict ModelFault). FirstFailing (fault_rows v) f) (found ∙ ap (λ ls. expr_fault (record { taken = ls ++ names; inputs = inputs; rounds = ls }) (tree_of e)) no_loops) (one_fails row f (λ h. h) refl refl))
 
-no_fault : (v : Verdict) → AllHold (fault_rows v) → v ≡ Ok tt
+no_fault : (v : Verdict ModelFault) → AllHold (fault_rows v) → v ≡ Ok tt
 no_fault (Ok u) h = refl
 no_fault (Err f) h = absurd (first_holds (record { place = f.place; rule = f.rule; check = never }) [] h)
 
-no_rows : (v : Verdict) → v ≡ Ok tt → AllHold (fault_rows v)
-no_rows v e = subst (λ (x : Verdict). AllHold (fault_rows x)) (sym e) none_hold
+no_rows : (v : Verdict ModelFault) → v ≡ Ok tt → AllHold (fault_rows v)
+no_rows v e = subst (λ (x : Verdict ModelFault). AllHold (fault_rows x)) (sym e) none_hold
 
 -- a body whose rules hold
 pub faultless : (names inputs : List (List ℕ)) (body : Option Tree) → AllHold (body_rows names inputs body) → IsFaultless inputs body
 faultless names inputs None h = tt
 faultless names inputs (Some e) h = (names, no_fault (expr_fault (record { taken = names; inputs = inputs; rounds = [] }) e) h)
 
-new_behind_fewer : (name : Named) (r : Rule) (taken fewer : List (List ℕ)) → All (Contains taken) fewer → fault_unless (not (is_among name.text taken)) name r ≡ Ok tt → fault_unless (not (is_among name.text fewer)) name r ≡ Ok tt
+new_behind_fewer : (name : Named) (r : Rule) (taken fewer : List (List ℕ)) → All (Contains taken) fewer → fault_unless (not (is_among name.text taken)) (broken_at name r) ≡ Ok tt → fault_unless (not (is_among name.text fewer)) (broken_at name r) ≡ Ok tt
 new_behind_fewer name r taken fewer sub h =
-    let new = false_of (is_among name.text fewer) (λ t. let c = among name.text taken (All-contains (Contains taken) fewer name.text sub (listed name.text fewer t)) in let p = passes (not (is_among name.text taken)) name r h in let q : not true ≡ true = subst (λ b. not b ≡ true) c p in cc) in
-    ap (λ b. fault_unless (not b) name r) new
+    let new = false_of (is_among name.text fewer) (λ t. let c = among name.text taken (All-contains (Contains taken) fewer name.text sub (listed name.text fewer t)) in let p = test_passes (not (is_among name.text taken)) (broken_at name r) h in let q : not true ≡ true = subst (λ b. not b ≡ true) c p in cc) in
+    ap (λ b. fault_unless (not b) (broken_at name r)) new
 
-abbrev fault_at : List (List ℕ) → List (List ℕ) → List (List ℕ) → Tree → Verdict
+abbrev fault_at : List (List ℕ) → List (List ℕ) → List (List ℕ) → Tree → Verdict ModelFault
 fault_at inputs rounds taken t = expr_fault (record { taken = taken; inputs = inputs; rounds = rounds }) t
 
 readable_alike : (inputs rounds taken fewer : List (List ℕ)) (names : List Named) → is_readable (record { taken = fewer; inputs = inputs; rounds = rounds }) names ≡ is_readable (record { taken = taken; inputs = inputs; rounds = rounds }) names
@@ -81,24 +67,24 @@ one_more taken fewer name sub =
 expr_behind_fewer : (inputs rounds taken fewer : List (List ℕ)) (t : Tree) → All (Contains taken) fewer → fault_at inputs rounds taken t ≡ Ok tt → fault_at inputs rounds fewer t ≡ Ok tt
 expr_behind_fewer inputs rounds taken fewer (num n) sub h = refl
 expr_behind_fewer inputs rounds taken fewer (path names) sub h =
-    ap (λ b. fault_unless b (first_of names) rule.UnknownPath) (readable_alike inputs rounds taken fewer names) ∙ h
+    ap (λ b. fault_unless b (broken_at (first_of names) rule.UnknownPath)) (readable_alike inputs rounds taken fewer names) ∙ h
 expr_behind_fewer inputs rounds taken fewer (neg a) sub h = expr_behind_fewer inputs rounds taken fewer a sub h
 expr_behind_fewer inputs rounds taken fewer (op o a b) sub h =
-    both_ok _ _ (expr_behind_fewer inputs rounds taken fewer a sub (first_ok _ _ h)) (expr_behind_fewer inputs rounds taken fewer b sub (second_ok _ _ h))
+    both_pass _ _ (expr_behind_fewer inputs rounds taken fewer a sub (first_passes _ _ h)) (expr_behind_fewer inputs rounds taken fewer b sub (second_passes _ _ h))
 expr_behind_fewer inputs rounds taken fewer (choice c a b t e) sub h =
-    let after = second_ok _ _ h in
-    let branches = second_ok _ _ after in
-    both_ok _ _ (expr_behind_fewer inputs rounds taken fewer a sub (first_ok _ _ h))
-    (both_ok _ _ (expr_behind_fewer inputs rounds taken fewer b sub (first_ok _ _ after))
-    (both_ok _ _ (expr_behind_fewer inputs rounds taken fewer t sub (first_ok _ _ branches)) (expr_behind_fewer inputs rounds taken fewer e sub (second_ok _ _ branches))))
+    let after = second_passes _ _ h in
+    let branches = second_passes _ _ after in
+    both_pass _ _ (expr_behind_fewer inputs rounds taken fewer a sub (first_passes _ _ h))
+    (both_pass _ _ (expr_behind_fewer inputs rounds taken fewer b sub (first_passes _ _ after))
+    (both_pass _ _ (expr_behind_fewer inputs rounds taken fewer t sub (first_passes _ _ branches)) (expr_behind_fewer inputs rounds taken fewer e sub (second_passes _ _ branches))))
 expr_behind_fewer inputs rounds taken fewer (loop kind n a b e) sub h =
-    let parts = second_ok _ _ h in
-    let after = second_ok _ _ parts in
+    let parts = second_passes _ _ h in
+    let after = second_passes _ _ parts in
     let more = one_more taken fewer n.text sub in
-    both_ok _ _ (new_behind_fewer n rule.ShadowedName taken fewer sub (first_ok _ _ h))
-    (both_ok _ _ (expr_behind_fewer inputs rounds (n.text ∷ taken) (n.text ∷ fewer) a more (first_ok _ _ parts))
-    (both_ok _ _ (expr_behind_fewer inputs rounds (n.text ∷ taken) (n.text ∷ fewer) b more (first_ok _ _ after))
-    (expr_behind_fewer inputs (n.text ∷ rounds) (n.text ∷ taken) (n.text ∷ fewer) e more (second_ok _ _ after))))
+    both_pass _ _ (new_behind_fewer n rule.ShadowedName taken fewer sub (first_passes _ _ h))
+    (both_pass _ _ (expr_behind_fewer inputs rounds (n.text ∷ taken) (n.text ∷ fewer) a more (first_passes _ _ parts))
+    (both_pass _ _ (expr_behind_fewer inputs rounds (n.text ∷ taken) (n.text ∷ fewer) b more (first_passes _ _ after))
+    (expr_behind_fewer inputs (n.text ∷ rounds) (n.text ∷ taken) (n.text ∷ fewer) e more (second_passes _ _ after))))
 expr_behind_fewer inputs rounds taken fewer (call k place args) sub h = refl
 
 -- a body follows the rules behind fewer names too

@@ -10,6 +10,7 @@ use Rattle.statement_set.specs.Problem.{Task, empty_task}
 use Rattle.utopist_syntax.specs.declared.compute.Compute.{Compute}
 use Rattle.utopist_syntax.specs.FileTree.{ItemTree, ConceptTree, FileTree}
 use Rattle.utopist_syntax.specs.Asks.{AllAsk}
+use Rattle.concept_unfold.specs.Limits.{max_variables, max_size, max_statements}
 use Rattle.concept_unfold.specs.Built.{IsBuiltItem, IsBuiltConcept}
 use Rattle.concept_unfold.specs.Paths.{given_paths}
 use Rattle.concept_unfold.specs.Declarations.{all_variables, items_of}
@@ -91,19 +92,19 @@ module _ (w : Compute) (items : List ItemTree) (h : AllHold (limit_rows w items)
   after_paths : AllHold (variable_count w items ++ (size_count w items ++ statement_count w items))
   after_paths = right_hold (path_count w items) (variable_count w items ++ (size_count w items ++ statement_count w items)) h
 
-  pub few_variables : length (all_variables items) ≤ 1024
+  pub few_variables : length (all_variables items) ≤ max_variables
   few_variables =
-      first_holds (limit_row w limit.Variables 1024 (length (all_variables items))) (size_count w items ++ statement_count w items) after_paths
+      first_holds (limit_row w limit.Variables max_variables (length (all_variables items))) (size_count w items ++ statement_count w items) after_paths
 
-  pub few_nodes : sum_by size_of items ≤ 262144
+  pub few_nodes : sum_by size_of items ≤ max_size
   few_nodes =
-      first_holds (limit_row w limit.Size 262144 (sum_by size_of items)) (statement_count w items)
+      first_holds (limit_row w limit.Size max_size (sum_by size_of items)) (statement_count w items)
       (right_hold (variable_count w items) (size_count w items ++ statement_count w items) after_paths)
 
-  pub few_statements : sum_by statements_in items ≤ 4096
+  pub few_statements : sum_by statements_in items ≤ max_statements
   few_statements =
       let after = right_hold (variable_count w items) (size_count w items ++ statement_count w items) after_paths in
-      first_holds (limit_row w limit.Statements 4096 (sum_by statements_in items)) [] (right_hold (size_count w items) (statement_count w items) after)
+      first_holds (limit_row w limit.Statements max_statements (sum_by statements_in items)) [] (right_hold (size_count w items) (statement_count w items) after)
 
 -- the problem with its items, and then with its goal, is that of the items and the compute statement
 pub problem_is : (w : Compute) (items : List ItemTree) (p q : Task) → p ≡ record empty_task { names = all_variables items; statements = flat_map (statements_of (all_variables items)) items } → q ≡ record p { givens = map (given_of p.names) w.givens; wants = map (number p.names) w.wants } → q ≡ problem_from items w

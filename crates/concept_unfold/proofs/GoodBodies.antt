@@ -1,9 +1,8 @@
 -- A body that follows the rules passes the check of bodies.
 use Rattle.std.proofs.Common.{◌≡◌, ℕ, suc, ◌<◌, Bool, true, false, ◌||◌, List, [], ◌∷◌, length, map, Option, Some, None, Ok, refl, sym, ap, ◌∙◌, subst, arith}
-use Rattle.std.specs.Prelude.{IfSome, nat_lt}
+use Rattle.std.specs.Prelude.{IfSome}
 use Rattle.std.specs.Str.{bytes_eq}
 use Rattle.std.specs.List.{position_or_len}
-use Rattle.std.proofs.lemmas.Bool.Decides.{nat_tests}
 use Rattle.std.proofs.lemmas.List.{length-map}
 use Rattle.priz_base.proofs.More.{some_below}
 use Rattle.body_lang.specs.declared.body.Body.{Body}
@@ -11,7 +10,11 @@ use Rattle.body_lang.specs.declared.loop_kind.LoopKind.{LoopKind}
 use Rattle.body_lang.specs.declared.loop_kind.LoopKind.TheVariants.{Sum, Prod, Iter}
 use Rattle.body_lang.specs.View.{body_tree}
 use Rattle.body_lang.specs.declared.body_fault.BodyFault.TheVariants.{BadInput, BadLocal}
+use Rattle.body_lang.specs.Verdicts.{fault_unless}
 use Rattle.body_lang.specs.Checked as check
+use Rattle.body_lang.proofs.BodyTrees as trees
+use Rattle.body_lang.proofs.ClosedBodies.{below_passes}
+use Rattle.body_lang.proofs.Verdicts.{first_passes, second_passes, both_pass, test_passes}
 use Rattle.statement_set.specs.declared.statement.Statement.{Statement}
 use Rattle.statement_set.specs.declared.subtask.Subtask.{Subtask}
 use Rattle.statement_set.specs.Problem.{IsBodyOver}
@@ -22,21 +25,13 @@ use Rattle.utopist_syntax.specs.declared.item.Part.{Part}
 use Rattle.concept_unfold.specs.declared.fault.Rule.TheVariants as rule
 use Rattle.concept_unfold.specs.Built.{IsBuiltExpr, IsBuiltBody}
 use Rattle.concept_unfold.specs.Paths.{first_of, first_name, inputs_of, input_names}
-use Rattle.concept_unfold.specs.BodyFault.{is_among, is_readable, expr_fault, IsFaultless}
+use Rattle.concept_unfold.specs.BodyFault.{broken_at, is_among, is_readable, expr_fault, IsFaultless}
 use Rattle.concept_unfold.specs.Bodies.{loop_number, loop_or_input, named, loop_of, expr_body, body_over}
 use Rattle.concept_unfold.proofs.Places.{stands_there}
 use Rattle.concept_unfold.proofs.Among.{listed}
-use Rattle.concept_unfold.proofs.Faults.{first_ok, second_ok, passes}
-use Rattle.concept_unfold.proofs.BodyTrees as trees
 
 abbrev passes_check : ℕ → ℕ → Body → Type 0
 passes_check n loops b = check.checked n [] loops (body_tree b) ≡ Ok tt
-
-below : (i n : ℕ) → i < n → nat_lt i n ≡ true
-below i n lt = grind (arith, nat_tests)
-
-check_both : (v w : check.Verdict) → v ≡ Ok tt → w ≡ Ok tt → check.and_then v w ≡ Ok tt
-check_both v w e d = ap (λ x. check.and_then x w) e ∙ d
 
 number_here : (name x : List ℕ) (xs : List (List ℕ)) → bytes_eq name x ≡ true → loop_number name (x ∷ xs) ≡ Some (length xs)
 number_here name x xs e = rw e refl
@@ -70,12 +65,12 @@ left_true false b t e = absurd (cc)
 name_at : (inputs rounds : List (List ℕ)) (name : List ℕ) (o : Option ℕ) → loop_number name rounds ≡ o → (is_among name inputs || is_among name rounds) ≡ true → passes_check (length inputs) (length rounds) (loop_or_input o (position_or_len (bytes_eq name) inputs))
 name_at inputs rounds name (Some j) is t =
     ap (check.checked (length inputs) [] (length rounds)) (trees.local_tree j)
-    ∙ ap (λ b. check.fault_unless b BadLocal) (below j (length rounds) (number_below name rounds j is))
+    ∙ ap (λ b. fault_unless b BadLocal) (below_passes j (length rounds) (number_below name rounds j is))
 name_at inputs rounds name None is t =
     let i = position_or_len (bytes_eq name) inputs in
     let there = listed name inputs (left_true (is_among name inputs) (is_among name rounds) t (no_loop name rounds is)) in
     ap (check.checked (length inputs) [] (length rounds)) (trees.input_tree i)
-    ∙ ap (λ b. check.fault_unless b BadInput) (below i (length inputs) (some_below inputs i name (stands_there inputs name there)))
+    ∙ ap (λ b. fault_unless b BadInput) (below_passes i (length inputs) (some_below inputs i name (stands_there inputs name there)))
 
 path_passes : (inputs rounds taken : List (List ℕ)) (names : List Named) → is_readable (record { taken = taken; inputs = inputs; rounds = rounds }) names ≡ true → passes_check (length inputs) (length rounds) (named inputs rounds (first_of names).text)
 path_passes inputs rounds taken [] t = absurd (cc)
@@ -83,31 +78,31 @@ path_passes inputs rounds taken (n ∷ []) t = name_at inputs rounds n.text (loo
 path_passes inputs rounds taken (n ∷ m ∷ ns) t = absurd (cc)
 
 loop_passes : (n loops : ℕ) (kind : LoopKind) (a b e : Body) → passes_check n loops a → passes_check n loops b → passes_check n (suc loops) e → passes_check n loops (loop_of kind a b e)
-loop_passes n loops Sum a b e p q r = ap (check.checked n [] loops) (trees.total_tree a b e) ∙ check_both _ _ p (check_both _ _ q r)
-loop_passes n loops Prod a b e p q r = ap (check.checked n [] loops) (trees.product_tree a b e) ∙ check_both _ _ p (check_both _ _ q r)
-loop_passes n loops Iter a b e p q r = ap (check.checked n [] loops) (trees.iterate_tree a b e) ∙ check_both _ _ p (check_both _ _ q r)
+loop_passes n loops Sum a b e p q r = ap (check.checked n [] loops) (trees.total_tree a b e) ∙ both_pass _ _ p (both_pass _ _ q r)
+loop_passes n loops Prod a b e p q r = ap (check.checked n [] loops) (trees.product_tree a b e) ∙ both_pass _ _ p (both_pass _ _ q r)
+loop_passes n loops Iter a b e p q r = ap (check.checked n [] loops) (trees.iterate_tree a b e) ∙ both_pass _ _ p (both_pass _ _ q r)
 
 expr_passes : (inputs rounds taken : List (List ℕ)) (t : Tree) → IsBuiltExpr t → expr_fault (record { taken = taken; inputs = inputs; rounds = rounds }) t ≡ Ok tt → passes_check (length inputs) (length rounds) (expr_body inputs rounds t)
 expr_passes inputs rounds taken (num n) built h = ap (check.checked (length inputs) [] (length rounds)) (trees.num_tree (record { num = n; den = 1 }))
-expr_passes inputs rounds taken (path names) built h = path_passes inputs rounds taken names (passes _ (first_of names) rule.UnknownPath h)
+expr_passes inputs rounds taken (path names) built h = path_passes inputs rounds taken names (test_passes _ (broken_at (first_of names) rule.UnknownPath) h)
 expr_passes inputs rounds taken (neg a) built h =
     ap (check.checked (length inputs) [] (length rounds)) (trees.neg_tree (expr_body inputs rounds a)) ∙ expr_passes inputs rounds taken a built h
 expr_passes inputs rounds taken (op o a b) built h =
     ap (check.checked (length inputs) [] (length rounds)) (trees.op_tree o (expr_body inputs rounds a) (expr_body inputs rounds b))
-    ∙ check_both _ _ (expr_passes inputs rounds taken a built.0 (first_ok _ _ h)) (expr_passes inputs rounds taken b built.1 (second_ok _ _ h))
+    ∙ both_pass _ _ (expr_passes inputs rounds taken a built.0 (first_passes _ _ h)) (expr_passes inputs rounds taken b built.1 (second_passes _ _ h))
 expr_passes inputs rounds taken (choice c a b t e) built h =
-    let after = second_ok _ _ h in
-    let branches = second_ok _ _ after in
+    let after = second_passes _ _ h in
+    let branches = second_passes _ _ after in
     ap (check.checked (length inputs) [] (length rounds)) (trees.choice_tree c (expr_body inputs rounds a) (expr_body inputs rounds b) (expr_body inputs rounds t) (expr_body inputs rounds e))
-    ∙ check_both _ _ (expr_passes inputs rounds taken a built.0 (first_ok _ _ h))
-    (check_both _ _ (expr_passes inputs rounds taken b built.1.0 (first_ok _ _ after))
-    (check_both _ _ (expr_passes inputs rounds taken t built.1.1.0 (first_ok _ _ branches)) (expr_passes inputs rounds taken e built.1.1.1 (second_ok _ _ branches))))
+    ∙ both_pass _ _ (expr_passes inputs rounds taken a built.0 (first_passes _ _ h))
+    (both_pass _ _ (expr_passes inputs rounds taken b built.1.0 (first_passes _ _ after))
+    (both_pass _ _ (expr_passes inputs rounds taken t built.1.1.0 (first_passes _ _ branches)) (expr_passes inputs rounds taken e built.1.1.1 (second_passes _ _ branches))))
 expr_passes inputs rounds taken (loop kind n a b e) built h =
-    let parts = second_ok _ _ h in
-    let after = second_ok _ _ parts in
+    let parts = second_passes _ _ h in
+    let after = second_passes _ _ parts in
     loop_passes (length inputs) (length rounds) kind (expr_body inputs rounds a) (expr_body inputs rounds b) (expr_body inputs (n.text ∷ rounds) e)
-    (expr_passes inputs rounds (n.text ∷ taken) a built.0 (first_ok _ _ parts)) (expr_passes inputs rounds (n.text ∷ taken) b built.1.0 (first_ok _ _ after))
-    (expr_passes inputs (n.text ∷ rounds) (n.text ∷ taken) e built.1.1 (second_ok _ _ after))
+    (expr_passes inputs rounds (n.text ∷ taken) a built.0 (first_passes _ _ parts)) (expr_passes inputs rounds (n.text ∷ taken) b built.1.0 (first_passes _ _ after))
+    (expr_passes inputs (n.text ∷ rounds) (n.text ∷ taken) e built.1.1 (second_passes _ _ after))
 expr_passes inputs rounds taken (call k place args) built h = absurd built
 
 -- a statement without subtasks whose body takes its inputs

@@ -1,4 +1,5 @@
 pub mod Passing
+pub mod OneFault
 pub mod Names
 pub mod Relations
 pub mod Places
@@ -12,5 +13,4 @@ pub mod Stages
 mod Among
 mod FirstPlaces
 mod Faults
-mod BodyTrees
 mod GoodBodies

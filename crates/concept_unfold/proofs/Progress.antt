@@ -15,6 +15,7 @@ use Rattle.utopist_syntax.specs.declared.path.Path.{Path}
 use Rattle.utopist_syntax.specs.declared.item.Part.{Part}
 use Rattle.utopist_syntax.specs.declared.item.Item.{Item}
 use Rattle.utopist_syntax.specs.FileTree.{ItemTree, var, eq, rel, item_tree}
+use Rattle.concept_unfold.specs.Limits.{max_size, max_statements}
 use Rattle.concept_unfold.specs.Built.{IsBuiltItem}
 use Rattle.concept_unfold.specs.declared.fault.Rule.{Rule}
 use Rattle.concept_unfold.specs.declared.fault.Rule.TheVariants as rule
@@ -128,7 +129,7 @@ module _ (items : List Item) (i : ℕ) (x : Item) (lt : i < length items) (is : 
       let at : Item → Type 0 = λ y. IsBuiltItem (item_tree y) in
       subst at (sym is) (All-get_or at items i x lt (all_of_map IsBuiltItem item_tree items h))
 
-  pub item_size : sum_by size_of (map item_tree items) ≤ 262144 → size_of (item_tree x) ≤ 262144
+  pub item_size : sum_by size_of (map item_tree items) ≤ max_size → size_of (item_tree x) ≤ max_size
   item_size h =
       let f : Item → ℕ = λ y. size_of (item_tree y) in
       omega (arith, h, get_or-le-sum_by f items i x lt, ap f is, fold-map (λ a y. a + size_of y) item_tree 0 items)
@@ -157,7 +158,7 @@ module _ (items : List Item) (i : ℕ) (x : Item) (lt : i < length items) (is : 
       ∙ append_assoc old (statements_of all (item_tree x)) (flat_map (statements_of all) (map item_tree (drop (i + 1) items)))
       ∙ sym (ap (λ (y : List Item). old ++ flat_map (statements_of all) (map item_tree y)) (drop_at items i x lt is)) ∙ h
 
-  pub room_more : (vars : List (List ℕ)) (old new : List Statement) → length old + sum_by statements_in (map item_tree (drop i items)) ≤ 4096 → new ≡ old ++ statements_of vars (item_tree x) → length new + sum_by statements_in (map item_tree (drop (i + 1) items)) ≤ 4096
+  pub room_more : (vars : List (List ℕ)) (old new : List Statement) → length old + sum_by statements_in (map item_tree (drop i items)) ≤ max_statements → new ≡ old ++ statements_of vars (item_tree x) → length new + sum_by statements_in (map item_tree (drop (i + 1) items)) ≤ max_statements
   room_more vars old new h e =
       let f : Item → ℕ = λ y. statements_in (item_tree y) in
       let here : f (get_or items i x) ≡ f x = ap f (sym is) in

@@ -2,10 +2,11 @@
 use Rattle.std.proofs.Common.{◌≡◌, ℕ, ◌+◌, ◌<◌, ◌≤◌, List, ◌++◌, length, drop, ap, arith, length-append, length-drop}
 use Rattle.std.proofs.lemmas.List.{length-map}
 use Rattle.utopist_syntax.specs.Named.{Named}
+use Rattle.concept_unfold.specs.Limits.{max_variables}
 use Rattle.concept_unfold.specs.Declarations.{texts}
 
 -- where names are left, there is room for one
-pub room_for_one : (names start : List (List ℕ)) (ns : List Named) (i : ℕ) → i < length ns → names ++ texts (drop i ns) ≡ start ++ texts ns → length start + length ns ≤ 1024 → length names < 1024
+pub room_for_one : (names start : List (List ℕ)) (ns : List Named) (i : ℕ) → i < length ns → names ++ texts (drop i ns) ≡ start ++ texts ns → length start + length ns ≤ max_variables → length names < max_variables
 room_for_one names start ns i lt e room =
     let f : Named → List ℕ = λ n. n.text in
     omega (arith, ap length e, length-append names (texts (drop i ns)), length-append start (texts ns), length-map (drop i ns) f, length-map ns f, length-drop i ns)

@@ -5,6 +5,7 @@ use Rattle.utopist_syntax.specs.declared.compute.Compute.{Compute}
 use Rattle.utopist_syntax.specs.FileTree.{ItemTree, ConceptTree}
 use Rattle.concept_unfold.specs.declared.fault.Rule.TheVariants as rule
 use Rattle.concept_unfold.specs.declared.fault.Limit.TheVariants as limit
+use Rattle.concept_unfold.specs.Limits.{max_concepts, max_paths, max_variables, max_size, max_statements}
 use Rattle.concept_unfold.specs.Paths.{given_paths}
 use Rattle.concept_unfold.specs.Declarations.{all_variables, items_of, concept_names}
 use Rattle.concept_unfold.specs.Rows.{at_most, is_new, is_known, Row, AllHold}
@@ -14,7 +15,7 @@ use Rattle.concept_unfold.proofs.Passing.{Passed, all_left, passed_more}
 
 module _ (earlier : List (List ℕ)) (c : ConceptTree) where
   abbrev pub concept_count : List Row
-  concept_count = at_name c.name (rule.TooMany limit.Concepts) (at_most 1024 (length earlier + 1)) ∷ []
+  concept_count = at_name c.name (rule.TooMany limit.Concepts) (at_most max_concepts (length earlier + 1)) ∷ []
 
   abbrev pub concept_name : List Row
   concept_name = at_name c.name rule.DuplicateName (is_new earlier c.name.text) ∷ []
@@ -55,16 +56,16 @@ module _ (cs : List ConceptTree) (before : ℕ) (c : Compute) where
 
 module _ (c : Compute) (items : List ItemTree) where
   abbrev pub path_count : List Row
-  path_count = limit_row c limit.Paths 8192 (length (all_variables items)) ∷ []
+  path_count = limit_row c limit.Paths max_paths (length (all_variables items)) ∷ []
 
   abbrev pub variable_count : List Row
-  variable_count = limit_row c limit.Variables 1024 (length (all_variables items)) ∷ []
+  variable_count = limit_row c limit.Variables max_variables (length (all_variables items)) ∷ []
 
   abbrev pub size_count : List Row
-  size_count = limit_row c limit.Size 262144 (sum_by size_of items) ∷ []
+  size_count = limit_row c limit.Size max_size (sum_by size_of items) ∷ []
 
   abbrev pub statement_count : List Row
-  statement_count = limit_row c limit.Statements 4096 (sum_by statements_in items) ∷ []
+  statement_count = limit_row c limit.Statements max_statements (sum_by statements_in items) ∷ []
 
   pub at_paths : Passed (limit_rows c items) (path_count ++ (variable_count ++ (size_count ++ statement_count)))
   at_paths = all_left (limit_rows c items)

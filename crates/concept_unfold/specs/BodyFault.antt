@@ -1,7 +1,8 @@
 -- The first fault in the body of a relation, from left to right.
-use Rattle.std.specs.Prelude.{ℕ, List, [], ◌∷◌, Bool, true, false, ◌||◌, not, Option, Some, None, Result, Ok, Err, ◌≡◌}
+use Rattle.std.specs.Prelude.{ℕ, List, [], ◌∷◌, Bool, false, ◌||◌, not, Option, Some, None, Ok, ◌≡◌}
 use Rattle.std.specs.Str.{bytes_eq}
 use Rattle.std.specs.List.{list_any}
+use Rattle.body_lang.specs.Verdicts.{Verdict, and_then, fault_unless}
 use Rattle.utopist_syntax.specs.Named.{Named}
 use Rattle.utopist_syntax.specs.Tree.{Tree, num, path, neg, op, choice, loop, call}
 use Rattle.concept_unfold.specs.declared.fault.Rule.{Rule}
@@ -15,19 +16,9 @@ pub record Point : Type 0 where
   pub inputs : List (List ℕ)
   pub rounds : List (List ℕ)
 
--- no fault, or the first one
-abbrev pub Verdict : Type 0
-Verdict = Result (Unit {0}) ModelFault
-
--- the first verdict, or the second where the first has no fault
-abbrev pub and_then : Verdict → Verdict → Verdict
-and_then (Ok u) next = next
-and_then (Err f) next = Err f
-
--- a rule that is broken at this name, unless the test holds
-abbrev pub fault_unless : Bool → Named → Rule → Verdict
-fault_unless true n r = Ok tt
-fault_unless false n r = Err (record { place = n.place; rule = r })
+-- this rule is broken, at this name
+abbrev pub broken_at : Named → Rule → ModelFault
+broken_at n r = record { place = n.place; rule = r }
 
 -- the name is one of these
 abbrev pub is_among : List ℕ → List (List ℕ) → Bool
@@ -48,15 +39,15 @@ abbrev pub in_round : Named → Point → Point
 in_round n pt = record pt { taken = n.text ∷ pt.taken; rounds = n.text ∷ pt.rounds }
 
 -- an expression, of the forms that are built: the names of its loops are new, and its paths are readable
-abbrev pub expr_fault : Point → Tree → Verdict
+abbrev pub expr_fault : Point → Tree → Verdict ModelFault
 expr_fault pt (num n) = Ok tt
-expr_fault pt (path names) = fault_unless (is_readable pt names) (first_of names) rule.UnknownPath
+expr_fault pt (path names) = fault_unless (is_readable pt names) (broken_at (first_of names) rule.UnknownPath)
 expr_fault pt (neg a) = expr_fault pt a
 expr_fault pt (op o a b) = and_then (expr_fault pt a) (expr_fault pt b)
 expr_fault pt (choice c a b t e) =
     and_then (expr_fault pt a) (and_then (expr_fault pt b) (and_then (expr_fault pt t) (expr_fault pt e)))
 expr_fault pt (loop kind n a b e) =
-    and_then (fault_unless (not (is_among n.text pt.taken)) n rule.ShadowedName)
+    and_then (fault_unless (not (is_among n.text pt.taken)) (broken_at n rule.ShadowedName))
     (and_then (expr_fault (in_bounds n pt) a) (and_then (expr_fault (in_bounds n pt) b) (expr_fault (in_round n pt) e)))
 expr_fault pt (call k place args) = Ok tt
 

@@ -1,5 +1,6 @@
 -- The rules of concepts, in the order of the text: names are declared once, and before they are used.
 use Rattle.std.specs.Prelude.{ℕ, ◌+◌, List, [], ◌∷◌, ◌++◌, length, map, Option, Some, None, Ok, Err}
+use Rattle.body_lang.specs.Verdicts.{Verdict}
 use Rattle.utopist_syntax.specs.Named.{Named}
 use Rattle.utopist_syntax.specs.declared.path.Path.{Path}
 use Rattle.utopist_syntax.specs.declared.compute.Compute.{Compute}
@@ -8,9 +9,11 @@ use Rattle.utopist_syntax.specs.FileTree.{ItemTree, var, eq, rel, ConceptTree, F
 use Rattle.concept_unfold.specs.declared.fault.Rule.{Rule}
 use Rattle.concept_unfold.specs.declared.fault.Rule.TheVariants as rule
 use Rattle.concept_unfold.specs.declared.fault.Limit.TheVariants as limit
+use Rattle.concept_unfold.specs.Limits.{max_concepts, max_computes}
 use Rattle.concept_unfold.specs.Paths.{first_name, inputs_of, input_names, given_paths}
 use Rattle.concept_unfold.specs.Declarations.{declared, variables, all_variables, items_of, concept_names}
-use Rattle.concept_unfold.specs.BodyFault.{Verdict, expr_fault}
+use Rattle.concept_unfold.specs.declared.fault.ModelFault.{ModelFault}
+use Rattle.concept_unfold.specs.BodyFault.{expr_fault}
 use Rattle.concept_unfold.specs.Rows.{Check, at_most, is_new, is_known, is_path, never, Row}
 
 -- a rule on a name, checked where the name stands
@@ -27,7 +30,7 @@ abbrev pub known_rows : List (List ℕ) → List Path → List Row
 known_rows vars paths = map (λ p. at_name (first_name p) rule.UnknownPath (is_path vars p)) paths
 
 -- a rule that was found to fail, if one was
-abbrev pub fault_rows : Verdict → List Row
+abbrev pub fault_rows : Verdict ModelFault → List Row
 fault_rows (Ok u) = []
 fault_rows (Err f) = record { place = f.place; rule = f.rule; check = never } ∷ []
 
@@ -52,7 +55,7 @@ items_rows names vars (i ∷ items) = item_rows names vars i ++ items_rows (name
 -- a concept behind concepts of these names: there are not too many, and its name is new
 abbrev pub concept_rows : List (List ℕ) → ConceptTree → List Row
 concept_rows earlier c =
-    at_name c.name (rule.TooMany limit.Concepts) (at_most 1024 (length earlier + 1)) ∷ at_name c.name rule.DuplicateName (is_new earlier c.name.text)
+    at_name c.name (rule.TooMany limit.Concepts) (at_most max_concepts (length earlier + 1)) ∷ at_name c.name rule.DuplicateName (is_new earlier c.name.text)
     ∷ items_rows [] [] c.items
 
 -- concepts one after another
@@ -63,7 +66,7 @@ concepts_rows earlier (c ∷ cs) = concept_rows earlier c ++ concepts_rows (earl
 -- a compute statement behind so many: there are not too many, it names a concept, and speaks of its variables
 abbrev pub compute_rows : List ConceptTree → ℕ → Compute → List Row
 compute_rows concepts before c =
-    at_name c.name (rule.TooMany limit.Computes) (at_most 64 (before + 1)) ∷ at_name c.name rule.UnknownConcept (is_known (concept_names concepts) c.name.text)
+    at_name c.name (rule.TooMany limit.Computes) (at_most max_computes (before + 1)) ∷ at_name c.name rule.UnknownConcept (is_known (concept_names concepts) c.name.text)
     ∷ (known_rows (all_variables (items_of concepts c.name.text)) (given_paths c.givens) ++ known_rows (all_variables (items_of concepts c.name.text)) c.wants)
 
 -- compute statements one after another

@@ -2,6 +2,7 @@ pub mod Built
 pub mod Paths
 pub mod Declarations
 pub mod Rows
+pub mod Limits
 pub mod ConceptRules
 pub mod UnfoldingRules
 pub mod Unfolded

@@ -6,6 +6,7 @@ use Rattle.utopist_syntax.specs.FileTree.{ItemTree, var, eq, rel, FileTree}
 use Rattle.concept_unfold.specs.declared.fault.Rule.TheVariants as rule
 use Rattle.concept_unfold.specs.declared.fault.Limit.{Limit}
 use Rattle.concept_unfold.specs.declared.fault.Limit.TheVariants as limit
+use Rattle.concept_unfold.specs.Limits.{max_paths, max_variables, max_size, max_statements}
 use Rattle.concept_unfold.specs.Paths.{inputs_of, given_names}
 use Rattle.concept_unfold.specs.Nodes.{body_nodes}
 use Rattle.concept_unfold.specs.Declarations.{all_variables, items_of}
@@ -31,8 +32,8 @@ limit_row c l most n = at_name c.name (rule.TooMany l) (at_most most n)
 -- the limits of a problem of these items; each declared path is a variable
 abbrev pub limit_rows : Compute → List ItemTree → List Row
 limit_rows c items =
-    limit_row c limit.Paths 8192 (length (all_variables items)) ∷ limit_row c limit.Variables 1024 (length (all_variables items))
-    ∷ limit_row c limit.Size 262144 (sum_by size_of items) ∷ limit_row c limit.Statements 4096 (sum_by statements_in items) ∷ []
+    limit_row c limit.Paths max_paths (length (all_variables items)) ∷ limit_row c limit.Variables max_variables (length (all_variables items))
+    ∷ limit_row c limit.Size max_size (sum_by size_of items) ∷ limit_row c limit.Statements max_statements (sum_by statements_in items) ∷ []
 
 -- the rules of unfolding of a compute statement
 abbrev pub unfolding_rules : FileTree → Compute → List Row

@@ -45,7 +45,7 @@ fn body_at(alloc: Global, inputs: &Inputs, rounds: &Loops, expr: &Expr) -> Resul
     ensures { (names : List (List ℕ)) → ArePlaces inputs.now names → IfOk result (λ b. b ≡ expr_body names (loop_names rounds.now) (tree_of expr.now)) }
 {
     match expr {
-        Expr::Num(n) => Ok(Body::Num(whole(*n))),
+        Expr::Num(n) => Ok(Body::Num(Frac::from_whole(*n))),
         Expr::Path(path) => Ok(named(inputs, rounds, path)),
         Expr::Neg(inner) => {
             let inner = body_at(alloc, inputs, rounds, inner.get())?;
@@ -135,12 +135,4 @@ fn named(inputs: &Inputs, rounds: &Loops, path: &Path) -> Body
         Some(j) => Body::Local(j),
         None => Body::Input(inputs.place(name) as u32),
     }
-}
-
-// The fraction of a number that a text may have.
-fn whole(n: i64) -> Frac
-    requires { pos 0 ≤ℤ n }
-    ensures { result ≡ record { num = n; den = 1 } }
-{
-    Frac::of(i128::from(n), 1).unwrap()
 }

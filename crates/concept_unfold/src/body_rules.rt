@@ -1,11 +1,12 @@
 //! The rules on the body of a relation.
 ghost use Rattle.std.specs.Prelude.{◌≡◌, ◌++◌, ℕ, List, not};
+ghost use Rattle.body_lang.specs.Verdicts.{fault_unless};
 ghost use Rattle.utopist_syntax.specs.View.{tree_of};
 ghost use Rattle.utopist_syntax.specs.FileTree.{body_tree};
 ghost use Rattle.concept_unfold.specs.Paths.{input_names, first_of};
 ghost use Rattle.concept_unfold.specs.LoopNames.{loop_names};
 ghost use Rattle.concept_unfold.specs.InputPlaces.{ArePlaces};
-ghost use Rattle.concept_unfold.specs.BodyFault.{expr_fault, fault_unless, is_among, is_readable};
+ghost use Rattle.concept_unfold.specs.BodyFault.{broken_at, expr_fault, is_among, is_readable};
 ghost use Rattle.concept_unfold.specs.Rows.{Checks};
 ghost use Rattle.concept_unfold.specs.ConceptRules.{body_rows};
 
@@ -99,7 +100,7 @@ fn check_expr(
 
 // The loop's name is new.
 fn expect_free(declared: &Names, around: &Loops, name: &Name) -> Result<(), ModelFault>
-    ensures { result ≡ fault_unless (not (is_among name.now.text (loop_names around.now ++ declared.now))) name.now Rule.ShadowedName }
+    ensures { result ≡ fault_unless (not (is_among name.now.text (loop_names around.now ++ declared.now))) (broken_at name.now Rule.ShadowedName) }
 {
     if has(around, name.text()) || declared.has(name.text()) {
         return Err(ModelFault {
@@ -112,7 +113,7 @@ fn expect_free(declared: &Names, around: &Loops, name: &Name) -> Result<(), Mode
 
 // The path is an input, or a loop in whose round it stands.
 fn expect_readable(inputs: &Inputs, rounds: &Loops, path: &Path) -> Result<(), ModelFault>
-    ensures { (names : List (List ℕ)) → ArePlaces inputs.now names → (taken : List (List ℕ)) → result ≡ fault_unless (is_readable (record { taken = taken; inputs = names; rounds = loop_names rounds.now }) path.now.parts) (first_of path.now.parts) Rule.UnknownPath }
+    ensures { (names : List (List ℕ)) → ArePlaces inputs.now names → (taken : List (List ℕ)) → result ≡ fault_unless (is_readable (record { taken = taken; inputs = names; rounds = loop_names rounds.now }) path.now.parts) (broken_at (first_of path.now.parts) Rule.UnknownPath) }
 {
     let place = match path.parts.as_slice() {
         [name] => {

@@ -2,6 +2,7 @@ ghost use Rattle.std.specs.Prelude.{◌≡◌, ◌+◌, ◌<◌, ◌≤◌, ◌�
 ghost use Rattle.std.specs.List.{flat_map, sum_by};
 ghost use Rattle.statement_set.specs.Problem.{empty_task};
 ghost use Rattle.utopist_syntax.specs.FileTree.{item_tree, body_tree};
+ghost use Rattle.concept_unfold.specs.Limits.{max_variables, max_statements};
 ghost use Rattle.concept_unfold.specs.Built.{IsBuiltBody, IsBuiltItem};
 ghost use Rattle.concept_unfold.specs.Paths.{inputs_of, input_names, IsOneOf};
 ghost use Rattle.concept_unfold.specs.Nodes.{body_nodes};
@@ -26,9 +27,9 @@ pub(crate) fn add_items(alloc: Global, problem: &mut Problem, items: &[Item]) ->
     requires empty { problem.old ≡ empty_task }
     requires rules { AllHold (items_rows [] [] (map item_tree items.now)) }
     requires built { All IsBuiltItem (map item_tree items.now) }
-    requires names { length (all_variables (map item_tree items.now)) ≤ 1024 }
+    requires names { length (all_variables (map item_tree items.now)) ≤ max_variables }
     requires size { sum_by size_of (map item_tree items.now) ≤ 262144 }
-    requires statements { sum_by statements_in (map item_tree items.now) ≤ 4096 }
+    requires statements { sum_by statements_in (map item_tree items.now) ≤ max_statements }
     ensures { OnOk result (problem.new ≡ record empty_task { names = all_variables (map item_tree items.now); statements = flat_map (statements_of (all_variables (map item_tree items.now))) (map item_tree items.now) }) }
 {
     for item in items {
@@ -40,9 +41,9 @@ pub(crate) fn add_items(alloc: Global, problem: &mut Problem, items: &[Item]) ->
 fn add_item(alloc: Global, problem: &mut Problem, item: &Item) -> Result<(), NoMem>
     requires rules { AllHold (item_rows problem.old.names problem.old.names (item_tree item.now)) }
     requires built { IsBuiltItem (item_tree item.now) }
-    requires names { length problem.old.names + length (variables (item_tree item.now)) ≤ 1024 }
+    requires names { length problem.old.names + length (variables (item_tree item.now)) ≤ max_variables }
     requires size { size_of (item_tree item.now) ≤ 262144 }
-    requires statements { length problem.old.statements + statements_in (item_tree item.now) ≤ 4096 }
+    requires statements { length problem.old.statements + statements_in (item_tree item.now) ≤ max_statements }
     ensures { OnOk result (problem.new ≡ record problem.old { names = problem.old.names ++ variables (item_tree item.now); statements = problem.old.statements ++ statements_of problem.old.names (item_tree item.now) }) }
 {
     match item {
@@ -59,7 +60,7 @@ fn add_item(alloc: Global, problem: &mut Problem, item: &Item) -> Result<(), NoM
 
 fn add_variables(problem: &mut Problem, names: &[Name]) -> Result<(), NoMem>
     requires fresh { AllHold (once_rows Rule.DuplicateName problem.old.names names.now) }
-    requires room { length problem.old.names + length names.now ≤ 1024 }
+    requires room { length problem.old.names + length names.now ≤ max_variables }
     ensures { OnOk result (problem.new ≡ record problem.old { names = problem.old.names ++ texts names.now }) }
 {
     for name in names {
@@ -80,7 +81,7 @@ fn add_statement(
     requires built { IsBuiltBody (body_tree body.now) }
     requires body { IsFaultless (input_names parts.now) (body_tree body.now) }
     requires size { length (inputs_of parts.now) + body_nodes (body_tree body.now) ≤ 262144 }
-    requires room { length problem.old.statements < 4096 }
+    requires room { length problem.old.statements < max_statements }
     ensures { OnOk result (problem.new ≡ record problem.old { statements = problem.old.statements ++ plain_statement problem.old.names parts.now output.now (body_tree body.now) ∷ [] }) }
 {
     problem.is_well_formed();

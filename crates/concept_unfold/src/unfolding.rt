@@ -1,5 +1,5 @@
 ghost use Rattle.std.specs.Prelude.{◌≡◌, ◌≢◌, ◌<◌, [], length, map, slice_get, Some, All, IfOk};
-ghost use Rattle.statement_set.specs.Problem.{IsWhole};
+ghost use Rattle.statement_set.specs.Problem.{IsPlain, IsWhole};
 ghost use Rattle.utopist_syntax.specs.declared.compute.Compute.{Compute};
 ghost use Rattle.utopist_syntax.specs.FileTree.{item_tree, concept_tree, file_tree};
 ghost use Rattle.utopist_syntax.specs.Asks.{AllAsk};
@@ -25,7 +25,7 @@ pub fn unfold(alloc: Global, file: &File, which: u32) -> Result<Problem, UnfoldF
     requires wants { AllAsk (file_tree file.now) }
     ensures problem { (c : Compute) → slice_get file.now.computes which ≡ Some c → UnfoldOf (file_tree file.now) c result }
     ensures whole { IfOk result IsWhole }
-    ensures plain { IfOk result (λ p. All (λ s. s.subs ≡ []) p.statements) }
+    ensures plain { IfOk result IsPlain }
 {
     let compute = &file.computes.as_slice()[which as usize];
     let items = items_of(file.concepts.as_slice(), compute.name.text());

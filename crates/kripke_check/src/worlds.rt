@@ -1,6 +1,5 @@
-ghost use Rattle.std.specs.Prelude.{◌≡◌, ℕ, ◌<◌, ◌+◌, ◌*◌, ◌^◌, ◌↔◌, [], ◌∷◌, ◌++◌, length, slice_get, slice_index, Contains, IsSomeAnd, OnOk, OnErr};
-ghost use Rattle.std.specs.Int.{bit_at};
-ghost use Rattle.kripke_check.specs.Bits.{HasBits};
+ghost use Rattle.std.specs.Prelude.{◌≡◌, ◌<◌, [], ◌∷◌, ◌++◌, length, slice_get, IsSomeAnd, OnOk, OnErr};
+ghost use Rattle.priz_base.specs.Bits.{HasBits};
 
 use priz_base::{NoMem, VarSet};
 use sqlite_items::Items;

@@ -5,6 +5,10 @@ use Rattle.std.specs.Prelude.{ℕ, ◌+◌, ◌-◌, ◌^◌, ◌≤◌, min}
 abbrev pub last_count : ℕ
 last_count = 2 ^ 64 - 1
 
+-- a count with one more, which stays where it stands at the last value
+abbrev pub next_count : ℕ → ℕ
+next_count count = min (count + 1) last_count
+
 -- the count is greater than before, or stands at its last value
 abbrev pub Rose : ℕ → ℕ → Type 0
-Rose before now = min (before + 1) last_count ≤ now
+Rose before now = next_count before ≤ now

@@ -1,4 +1,5 @@
 pub mod Members
+pub mod Bits
 pub mod Sets
 pub mod Faults
 pub mod Source

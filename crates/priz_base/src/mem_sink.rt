@@ -1,6 +1,6 @@
 ghost use Rattle.std.specs.Prelude.{◌≡◌, ◌+◌, ◌-◌, ◌^◌, ◌<◌, ◌≤◌, ◌⊎◌, ◌↔◌, [], length, take, min, Some, Contains, IfOk};
-ghost use Rattle.priz_base.specs.Faults.{Rose, last_count};
-ghost use Rattle.priz_base.specs.Sink.{FitsPush, Pushes};
+ghost use Rattle.priz_base.specs.Faults.{Rose, last_count, next_count};
+ghost use Rattle.priz_base.specs.Sink.{FitsPush, Pushes, CountsPush};
 
 use crate::no_mem::NoMem;
 use crate::sink::{Push, Sink};
@@ -72,9 +72,11 @@ impl<'a> Sink for MemSink<'a> {
         ensures later { self.old.faults ≤ self.new.faults }
         ensures last { self.new.faults ≤ last_count }
         ensures cause { result ≡ Push.Failed → Rose self.old.faults self.new.faults }
+        ensures counted { CountsPush result self.old.faults self.new.faults }
         ensures named { result ≡ Push.Failed ↔ (Contains self.old.fails self.old.calls ⊎ (length self.old.written ≡ self.old.room)) }
         ensures most { FitsPush result (take self.old.most from.now) }
-        ensures calls { self.new.calls ≡ min (self.old.calls + 1) last_count }
+        ensures within { length self.new.written ≤ self.new.room }
+        ensures calls { self.new.calls ≡ next_count self.old.calls }
         ensures same_fails { self.new.fails ≡ self.old.fails }
         ensures same_room { self.new.room ≡ self.old.room }
         ensures same_most { self.new.most ≡ self.old.most }

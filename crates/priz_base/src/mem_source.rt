@@ -1,6 +1,6 @@
 ghost use Rattle.std.specs.Prelude.{◌≡◌, ◌+◌, ◌<◌, ◌≤◌, ◌↔◌, length, take, min, Some, Contains};
-ghost use Rattle.priz_base.specs.Faults.{Rose, last_count};
-ghost use Rattle.priz_base.specs.Source.{FitsPull, Pulls};
+ghost use Rattle.priz_base.specs.Faults.{Rose, last_count, next_count};
+ghost use Rattle.priz_base.specs.Source.{FitsPull, Pulls, CountsPull};
 
 use crate::source::{Pull, Source};
 use std::marker::Model;
@@ -54,9 +54,10 @@ impl<'a> Source for MemSource<'a> {
         ensures later { self.old.faults ≤ self.new.faults }
         ensures last { self.new.faults ≤ last_count }
         ensures cause { result ≡ Pull.Failed → Rose self.old.faults self.new.faults }
+        ensures counted { CountsPull result self.old.faults self.new.faults }
         ensures named { result ≡ Pull.Failed ↔ Contains self.old.fails self.old.calls }
         ensures most { FitsPull result (take self.old.most into.new) }
-        ensures calls { self.new.calls ≡ min (self.old.calls + 1) last_count }
+        ensures calls { self.new.calls ≡ next_count self.old.calls }
         ensures same_fails { self.new.fails ≡ self.old.fails }
         ensures same_most { self.new.most ≡ self.old.most }
     {

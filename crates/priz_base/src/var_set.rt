@@ -1,5 +1,5 @@
-ghost use Rattle.std.specs.Prelude.{◌≡◌, ℕ, ◌<◌, ◌/◌, ◌%◌, ◌↔◌, ◌⊎◌, ◌≢◌, [], length, slice_index, All, Contains, IsTrue};
-ghost use Rattle.std.specs.Int.{bit_at};
+ghost use Rattle.std.specs.Prelude.{◌≡◌, ◌<◌, ◌↔◌, [], length, Contains, IsTrue};
+ghost use Rattle.priz_base.specs.Bits.{HasBits};
 ghost use Rattle.priz_base.specs.Sets.{IsSortedBelow, IsWithin, Adds, Removes};
 
 use crate::Var;
@@ -79,9 +79,10 @@ impl VarSet {
         let _ = &self.words;
     }
 
+    /// The set as sixteen words: bit b of word w stands for variable 64·w + b.
     pub fn words(&self) -> &[u64]
         ensures sixteen { length result.now ≡ 16 }
-        ensures bits { (n : ℕ) → Contains self.now n ↔ ((n < 1024) × (bit_at (slice_index result.now (n / 64)) (n % 64) ≡ 1)) }
+        ensures bits { HasBits result.now self.now }
     {
         &self.words
     }

@@ -6,7 +6,6 @@ use Rattle.std.proofs.lemmas.Grind.{flat_map-append}
 use Rattle.std.proofs.lemmas.Option.{slice_get_within, get_or_from_slice_get}
 use Rattle.std.proofs.lemmas.List.Elements.{All-append, All-head}
 use Rattle.priz_base.proofs.More.{drop_at, take_at}
-use Rattle.statement_set.proofs.Lists.{all_right}
 use Rattle.concept_unfold.specs.declared.fault.ModelFault.{ModelFault}
 use Rattle.concept_unfold.specs.Rows.{Row, Holds, AllHold, FirstFailing}
 
@@ -35,12 +34,6 @@ first_behind front back m hold h = record {
   place = h.place;
   rule = h.rule;
 }
-
--- where one fails not all hold
-pub not_all : (rows : List Row) (m : ModelFault) → FirstFailing rows m → AllHold rows → ⊥
-not_all rows m h all =
-    let P : Row → Type 0 = λ r. Holds r.check in
-    h.fails (All-head P h.row h.after (all_right P h.before (h.row ∷ h.after) (subst (All P) h.split all)))
 
 -- the rules of each of several things: those before one of them, its own, and those behind it
 rules_at : {X : Type 0} (f : X → List Row) (xs : List X) (i : ℕ) (x : X) → slice_get xs i ≡ Some x → flat_map f xs ≡ flat_map f (take i xs) ++ (f x ++ flat_map f (drop (i + 1) xs))

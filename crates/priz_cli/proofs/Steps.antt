@@ -29,7 +29,7 @@ use Rattle.priz_cli.specs.Refused.{Refuses}
 use Rattle.priz_cli.specs.Faults.{parse_fault, unfold_fault}
 use Rattle.priz_cli.specs.Steps.{FormOf, SolutionOf, AcceptedOf}
 use Rattle.priz_cli.specs.Unbuilt.{opens, at_start, behind_all, NoneOpens, kinds_of, FirstUnbuilt, UnbuiltOf}
-use Rattle.priz_cli.proofs.Rows.{not_all}
+use Rattle.concept_unfold.proofs.OneFault.{not_all}
 use Rattle.priz_cli.proofs.UnbuiltTokens.{none-append, append-none}
 use Rattle.priz_cli.proofs.Watched.{kinds_in}
 use Rattle.priz_cli.proofs.BuiltForms.{built_passes, passing_is_built}
@@ -72,7 +72,7 @@ none_is_built text f r none =
     subst IsBuilt r.tree (passing_is_built r.written (subst (NoneOpens at_start) (sym (written_kinds text f r)) (none-append at_start (kinds_of r.tokens) (kinds.End ∷ []) none (refl, tt))))
 
 -- where one does it is not
-found_is_unbuilt : (text : List ℕ) (f : FileTree) (r : ReadsAs text f) (p : Place) → FirstUnbuilt r.tokens p → ¬ IsBuilt f
+pub found_is_unbuilt : (text : List ℕ) (f : FileTree) (r : ReadsAs text f) (p : Place) → FirstUnbuilt r.tokens p → ¬ IsBuilt f
 found_is_unbuilt text f r p u built =
     let none : NoneOpens at_start (kinds_of r.tokens ++ kinds.End ∷ []) = subst (NoneOpens at_start) (written_kinds text f r) (built_passes r.written (subst IsBuilt (sym r.tree) built)) in
     let split : kinds_of r.tokens ++ kinds.End ∷ [] ≡ kinds_of u.before ++ (u.next.kind ∷ (kinds_of u.after ++ kinds.End ∷ [])) =

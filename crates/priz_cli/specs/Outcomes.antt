@@ -62,9 +62,9 @@ RunLeaves asked o left left' written written' before now =
     × (before ≤ count) × (count ≤ now) × (o ≡ outcome.WriteFault → Rose before count) × (IsUnwritten o → count ≡ before)
     × (Appends mid written' (message_of o) ⊎ (WritesPart mid written' (message_of o) × Rose count now))
 
--- the words are refused, or memory was wanted
-abbrev pub IsUsage : Outcome → Type 0
-IsUsage o = (o ≡ outcome.Usage) ⊎ (o ≡ outcome.NoMem)
+-- the program ends so, or for want of memory
+abbrev pub EndsAs : Outcome → Outcome → Type 0
+EndsAs o result = (result ≡ o) ⊎ (result ≡ outcome.NoMem)
 
 -- answers were given, or memory was wanted
 abbrev pub IsAnswered : Outcome → Type 0

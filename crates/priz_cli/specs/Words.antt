@@ -30,10 +30,18 @@ number_to greatest text =
     let n = digits_value 10 text in
     if list_all is_ascii_digit text && (nat_le 1 n && nat_le n greatest) then Some n else None
 
--- the turns that are asked for: 1,000,000 where none are, and at most 10,000,000
+-- the turns of a run where none are asked for
+abbrev pub usual_turns : ℕ
+usual_turns = 1000000
+
+-- the most that may be asked for
+abbrev pub most_turns : ℕ
+most_turns = 10000000
+
+-- the turns that are asked for, or the usual ones
 abbrev pub turns_in : Option Text → Option ℕ
-turns_in None = Some 1000000
-turns_in (Some text) = number_to 10000000 text
+turns_in None = Some usual_turns
+turns_in (Some text) = number_to most_turns text
 
 -- what is asked for where MODE and --turns have these texts; `solve` is the one mode
 abbrev pub effort_in : Option Text → Option Text → Option Effort

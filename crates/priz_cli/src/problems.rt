@@ -1,13 +1,12 @@
 ghost use Rattle.std.specs.Prelude.{◌≡◌, All, IfOk, OnOk, ◌++◌, ◌∷◌, []};
 ghost use Rattle.std.specs.List.{flat_map};
-ghost use Rattle.statement_set.specs.Problem.{IsWhole};
+ghost use Rattle.statement_set.specs.Problem.{IsPlain};
 ghost use Rattle.utopist_syntax.specs.Asks.{AllAsk};
 ghost use Rattle.utopist_syntax.specs.FileTree.{file_tree};
 ghost use Rattle.concept_unfold.specs.Built.{IsBuilt};
 ghost use Rattle.concept_unfold.specs.Rows.{AllHold, Checks};
 ghost use Rattle.concept_unfold.specs.ConceptRules.{concept_rules};
 ghost use Rattle.concept_unfold.specs.UnfoldingRules.{unfolding_rules, rules_of};
-ghost use Rattle.answer_core.specs.Answers.{IsPlain};
 ghost use Rattle.priz_cli.specs.Reports.{problems_of};
 
 use concept_unfold::{UnfoldFault, check_concepts, unfold};
@@ -23,7 +22,6 @@ pub(crate) fn problems_of(alloc: Global, file: &File) -> Result<Items<Problem>, 
     requires wants { AllAsk (file_tree file.now) }
     ensures rules { Checks (rules_of (file_tree file.now)) result }
     ensures problems { IfOk result (λ ps. ps ≡ problems_of (file_tree file.now)) }
-    ensures whole { IfOk result (All IsWhole) }
     ensures plain { IfOk result (All IsPlain) }
 {
     check_concepts(alloc, file)?;
@@ -36,7 +34,6 @@ fn unfold_all(alloc: Global, file: &File) -> Result<Items<Problem>, UnfoldFault>
     requires wants { AllAsk (file_tree file.now) }
     ensures rules { Checks (flat_map (unfolding_rules (file_tree file.now)) file.now.computes) result }
     ensures problems { IfOk result (λ ps. ps ≡ problems_of (file_tree file.now)) }
-    ensures whole { IfOk result (All IsWhole) }
     ensures plain { IfOk result (All IsPlain) }
 {
     let mut problems = Items::new(alloc);

@@ -1,9 +1,8 @@
 ghost use Rattle.std.specs.Prelude.{◌≤◌, length, All, IfOk};
-ghost use Rattle.statement_set.specs.Problem.{IsWhole};
+ghost use Rattle.statement_set.specs.Problem.{IsPlain};
 ghost use Rattle.utopist_syntax.specs.Asks.{AllAsk};
 ghost use Rattle.utopist_syntax.specs.FileTree.{file_tree};
 ghost use Rattle.concept_unfold.specs.Built.{IsBuilt};
-ghost use Rattle.answer_core.specs.Answers.{IsPlain};
 ghost use Rattle.priz_cli.specs.Steps.{Solves, SolutionOf};
 
 use crate::fault::Fault;
@@ -34,7 +33,6 @@ pub(crate) fn solution_of(alloc: Global, file: &File, effort: &Effort) -> Result
 
 fn solve(alloc: Global, problems: &[Problem], effort: &Effort) -> Result<Solution, NoMem>
     requires few { length problems.now ≤ 64 }
-    requires whole { All IsWhole problems.now }
     requires plain { All IsPlain problems.now }
     ensures { IfOk result (Solves effort.now.turns problems.now) }
 {

@@ -1,10 +1,12 @@
-ghost use Rattle.std.specs.Prelude.{◌≡◌, ◌≢◌, ◌≤◌, length, map, string_bytes, Some, None, IsSome, IfSome};
+ghost use Rattle.std.specs.Prelude.{◌≡◌, ◌≢◌, ◌<◌, ◌≤◌, length, map, string_bytes, Some, None, IsSome, IfSome};
 ghost use Rattle.priz_base.specs.Faults.{Rose};
 ghost use Rattle.priz_base.specs.Reading.{max_input};
 ghost use Rattle.utopist_syntax.specs.FileTree.{FileTree};
 ghost use Rattle.priz_cli.specs.Words.{effort_of};
+ghost use Rattle.priz_cli.specs.declared.refusal.Refusal.{Refusal};
 ghost use Rattle.priz_cli.specs.Accepted.{Accepts};
-ghost use Rattle.priz_cli.specs.Outcomes.{Leaves, RunLeaves, IsUsage, IsUnwritten, IsAnswered};
+ghost use Rattle.priz_cli.specs.Refused.{IsRefused};
+ghost use Rattle.priz_cli.specs.Outcomes.{Leaves, RunLeaves, EndsAs, IsUnwritten, IsAnswered};
 ghost use Rattle.priz_cli.specs.Steps.{AcceptedOf};
 
 use crate::fault::Fault;
@@ -25,12 +27,14 @@ pub fn run<S: Source, K: Sink>(
     sink: &mut K,
 ) -> Outcome
     ensures outcome { RunLeaves (effort_of (map string_bytes words.now)) result (S.left source.old) (S.left source.new) (K.written sink.old) (K.written sink.new) (K.faults sink.old) (K.faults sink.new) }
-    ensures usage { effort_of (map string_bytes words.now) ≡ None → IsUsage result }
+    ensures usage { effort_of (map string_bytes words.now) ≡ None → EndsAs Outcome.Usage result }
     ensures untouched { result ≡ Outcome.Usage → S.faults source.new ≡ S.faults source.old }
     ensures read { result ≡ Outcome.ReadFault → Rose (S.faults source.old) (S.faults source.new) }
     ensures write { result ≡ Outcome.WriteFault → Rose (K.faults sink.old) (K.faults sink.new) }
     ensures later_source { S.faults source.old ≤ S.faults source.new }
     ensures later_sink { K.faults sink.old ≤ K.faults sink.new }
+    ensures refused { IsSome (effort_of (map string_bytes words.now)) → result ≢ Outcome.ReadFault → IfSome (S.left source.old) (λ bytes. (r : Refusal) → IsRefused bytes r → EndsAs (Outcome.Refused r) result) }
+    ensures long { IsSome (effort_of (map string_bytes words.now)) → result ≢ Outcome.ReadFault → IfSome (S.left source.old) (λ bytes. max_input < length bytes → EndsAs Outcome.InputTooLong result) }
     ensures complete { IsSome (effort_of (map string_bytes words.now)) → ¬ Rose (S.faults source.old) (S.faults source.new) → ¬ Rose (K.faults sink.old) (K.faults sink.new) → IfSome (S.left source.old) (λ bytes. (f : FileTree) → Accepts bytes f → IsAnswered result) }
 {
     let outcome = priz(alloc, words, source, sink);
@@ -46,13 +50,15 @@ pub fn priz<S: Source, K: Sink>(
     sink: &mut K,
 ) -> Outcome
     ensures outcome { Leaves (effort_of (map string_bytes words.now)) result (S.left source.old) (S.left source.new) (K.written sink.old) (K.written sink.new) }
-    ensures usage { effort_of (map string_bytes words.now) ≡ None → IsUsage result }
+    ensures usage { effort_of (map string_bytes words.now) ≡ None → EndsAs Outcome.Usage result }
     ensures untouched { result ≡ Outcome.Usage → S.faults source.new ≡ S.faults source.old }
     ensures unwritten { IsUnwritten result → K.faults sink.new ≡ K.faults sink.old }
     ensures read { result ≡ Outcome.ReadFault → Rose (S.faults source.old) (S.faults source.new) }
     ensures write { result ≡ Outcome.WriteFault → Rose (K.faults sink.old) (K.faults sink.new) }
     ensures later_source { S.faults source.old ≤ S.faults source.new }
     ensures later_sink { K.faults sink.old ≤ K.faults sink.new }
+    ensures refused { IsSome (effort_of (map string_bytes words.now)) → result ≢ Outcome.ReadFault → IfSome (S.left source.old) (λ bytes. (r : Refusal) → IsRefused bytes r → EndsAs (Outcome.Refused r) result) }
+    ensures long { IsSome (effort_of (map string_bytes words.now)) → result ≢ Outcome.ReadFault → IfSome (S.left source.old) (λ bytes. max_input < length bytes → EndsAs Outcome.InputTooLong result) }
     ensures complete { IsSome (effort_of (map string_bytes words.now)) → ¬ Rose (S.faults source.old) (S.faults source.new) → ¬ Rose (K.faults sink.old) (K.faults sink.new) → IfSome (S.left source.old) (λ bytes. (f : FileTree) → Accepts bytes f → IsAnswered result) }
 {
     match effort_of(alloc, words) {

@@ -1,6 +1,7 @@
 //! The forms that are read, and not built yet.
 ghost use Rattle.std.specs.Prelude.{◌≡◌, ◌≤◌, length};
 ghost use Rattle.std.specs.Str.{chars};
+ghost use Rattle.priz_base.specs.Reading.{max_input};
 ghost use Rattle.priz_cli.specs.Unbuilt.{opens, behind, found_with, UnbuiltOf};
 
 use priz_base::Place;
@@ -53,7 +54,7 @@ impl Context {
 
 /// The place of the first token that begins a form that is not built. No memory is taken.
 pub(crate) fn first_unbuilt(text: &str) -> Option<Place>
-    requires { length text.now ≤ 1048576 }
+    requires { length text.now ≤ max_input }
     ensures { UnbuiltOf (chars text.entry.now) result }
 {
     let mut lexer = Lexer::new(text);

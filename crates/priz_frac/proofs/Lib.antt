@@ -8,3 +8,4 @@ pub mod Multiples
 pub mod Operations
 pub mod Sums
 pub mod Unique
+pub mod Wholes

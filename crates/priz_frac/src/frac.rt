@@ -6,7 +6,7 @@ ghost use Rattle.priz_frac.specs.Lowest.{low, IsLowest};
 ghost use Rattle.priz_frac.specs.Narrow.{widest, IsNarrow};
 ghost use Rattle.priz_frac.specs.Outcome.{fitted, narrow, narrow_ratio, narrow_quotient};
 ghost use Rattle.priz_frac.specs.Order.{order_of};
-ghost use Rattle.priz_frac.specs.Whole.{whole_of};
+ghost use Rattle.priz_frac.specs.Whole.{whole, whole_of};
 ghost use Rattle.priz_frac.specs.Sign.{signed_number, signed_ratio};
 
 use crate::FracFault;
@@ -44,6 +44,14 @@ impl Frac {
             return Err(FracFault::ZeroDivisor);
         }
         reduce((n < 0) != (d < 0), n.unsigned_abs(), d.unsigned_abs())
+    }
+
+    /// A whole number. The least `i64` is none that a fraction has.
+    pub fn from_whole(n: i64) -> Frac
+        requires { unsigned_abs n ≤ widest }
+        ensures { result ≡ whole n }
+    {
+        Frac { num: n, den: 1 }
     }
 
     /// The numerator, which has the sign of the fraction.

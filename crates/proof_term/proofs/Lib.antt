@@ -1,4 +1,5 @@
 pub mod Blocks
+pub mod Bodies
 pub mod Pushes
 mod LoopRounds
 mod LoopForms

@@ -1,30 +1,18 @@
 -- The forms of loop, once their first two parts have values.
 use Rattle.std.proofs.Common.{◌≡◌, ℕ, List, pos, Ok, sym, ap, ◌∙◌}
 use Rattle.priz_frac.specs.Ratio.{Ratio}
-use Rattle.priz_frac.specs.Whole.{whole_of}
+use Rattle.priz_frac.specs.Whole.{whole_of, whole}
 use Rattle.body_lang.specs.declared.op.Op.TheVariants.{Add, Mul}
 use Rattle.body_lang.specs.declared.body.Body.{Body}
 use Rattle.body_lang.specs.declared.body.Body.TheViews as views
-use Rattle.body_lang.specs.declared.body.Body.TheVariants as variants
-use Rattle.body_lang.specs.declared.body.Body.TheFolds.{fold-roll-Body}
-use Rattle.body_lang.specs.declared.body.Body.TheOpen.{Body-F}
-use Rattle.body_lang.specs.BodyTree.{Tree, total, product, iterate}
-use Rattle.body_lang.specs.View.{node, body_tree}
+use Rattle.body_lang.specs.BodyTree.{Tree}
+use Rattle.body_lang.specs.View.{body_tree}
 use Rattle.body_lang.specs.Mode.{narrowly}
 use Rattle.body_lang.specs.Meaning.{Answer, mean}
 use Rattle.body_lang.specs.Rounds.{rounds_between, replacements_for}
 use Rattle.body_lang.specs.Run.{Ran, then_with}
-use Rattle.body_lang.specs.Values.{whole}
+use Rattle.body_lang.proofs.BodyTrees.{total_tree, product_tree, iterate_tree}
 use Rattle.proof_term.specs.Agrees.{part_at}
-
-total_tree : (a b e : Body) → body_tree (views.Sum a b e) ≡ total (body_tree a) (body_tree b) (body_tree e)
-total_tree a b e = ap body_tree (sym (variants.rolls-Sum a b e)) ∙ fold-roll-Body Tree node (Body-F.Sum a b e)
-
-product_tree : (a b e : Body) → body_tree (views.Prod a b e) ≡ product (body_tree a) (body_tree b) (body_tree e)
-product_tree a b e = ap body_tree (sym (variants.rolls-Prod a b e)) ∙ fold-roll-Body Tree node (Body-F.Prod a b e)
-
-iterate_tree : (a b e : Body) → body_tree (views.Iter a b e) ≡ iterate (body_tree a) (body_tree b) (body_tree e)
-iterate_tree a b e = ap body_tree (sym (variants.rolls-Iter a b e)) ∙ fold-roll-Body Tree node (Body-F.Iter a b e)
 
 module _ (owner : ℕ) (answer : Answer) (inputs locals : List Ratio) where
   abbrev pub means : Tree → ℕ → Ran

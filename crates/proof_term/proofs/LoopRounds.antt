@@ -9,7 +9,7 @@ use Rattle.body_lang.specs.Operation.{operate, as_run}
 use Rattle.body_lang.specs.Rounds.{one_round, rounds, replacements}
 use Rattle.body_lang.specs.Run.{Ran, then_with}
 use Rattle.body_lang.specs.Stop.{Stop}
-use Rattle.body_lang.specs.Values.{whole}
+use Rattle.priz_frac.specs.Whole.{whole}
 use Rattle.proof_term.specs.Agrees.{Agrees}
 
 -- a result stands for an equal meaning too

@@ -1,24 +1,18 @@
 -- A body that passes the check of a statement without subtasks calls nothing.
-use Rattle.std.proofs.Common.{◌≡◌, ℕ, suc, List, [], Option, Some, Ok, Err, refl, subst, length, map}
+use Rattle.std.proofs.Common.{◌≡◌, ℕ, suc, List, [], Option, Some, Ok, refl, subst, length, map}
 use Rattle.std.specs.Prelude.{All, IfSome, slice_get}
 use Rattle.body_lang.specs.declared.body.Body.{Body}
 use Rattle.body_lang.specs.BodyTree.{Tree, num, input, local, neg, op, choice, total, product, iterate, call, count_of}
 use Rattle.body_lang.specs.View.{body_tree}
-use Rattle.body_lang.specs.Checked.{Verdict, and_then, checked, all_checked, call_checked}
+use Rattle.body_lang.specs.Checked.{checked, all_checked, call_checked}
+use Rattle.body_lang.proofs.Verdicts.{first_passes, second_passes}
 use Rattle.statement_set.specs.declared.statement.Statement.{Statement}
 use Rattle.statement_set.specs.declared.subtask.Subtask.{Subtask}
 use Rattle.statement_set.specs.Problem.{Task, IsStatementOver, IsWellFormed, var_count}
 use Rattle.statement_set.proofs.Lists.{all_at}
 use Rattle.proof_term.specs.HasNoCall.{HasNoCall}
 
-first_passes : (v w : Verdict) → and_then v w ≡ Ok tt → v ≡ Ok tt
-first_passes (Ok u) w e = refl
-first_passes (Err f) w e = absurd (cc)
-
-second_passes : (v w : Verdict) → and_then v w ≡ Ok tt → w ≡ Ok tt
-second_passes (Ok u) w e = e
-second_passes (Err f) w e = absurd (cc)
-
+-- a body that passes where there is no subtask
 calls_nothing : (n loops : ℕ) (t : Tree) → checked n [] loops t ≡ Ok tt → HasNoCall t
 calls_nothing n loops (num v) h = tt
 calls_nothing n loops (input i) h = tt

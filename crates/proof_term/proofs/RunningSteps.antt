@@ -1,5 +1,5 @@
 -- The run of a block, one step after another.
-use Rattle.std.proofs.Common.{◌≡◌, ℕ, zero, suc, ◌+◌, ◌<◌, ◌≤◌, List, [], ◌∷◌, length, drop, get_or, map, Result, Ok, Err, refl, sym, ap, ◌∙◌, subst, arith}
+use Rattle.std.proofs.Common.{◌≡◌, ℕ, zero, suc, ◌+◌, ◌<◌, ◌≤◌, List, [], ◌∷◌, length, drop, get_or, map, None, Result, Ok, Err, refl, sym, ap, ◌∙◌, subst, arith}
 use Rattle.std.specs.Prelude.{slice_get, slice_set, IsSome, IsSomeAnd}
 use Rattle.std.proofs.lemmas.List.{drop_all, length-map, length-set}
 use Rattle.std.proofs.lemmas.List.Elements.{All-get_or}
@@ -15,8 +15,9 @@ use Rattle.proof_term.specs.declared.run_stop.RunStop.TheVariants.{Fault, NoMem}
 use Rattle.proof_term.specs.declared.step.Step.{Step}
 use Rattle.proof_term.specs.Proof.{step}
 use Rattle.proof_term.specs.Plain.{subs_of, steps_of}
-use Rattle.proof_term.specs.HasBodies.{HasBodies}
+use Rattle.proof_term.specs.Bodies.{first_without_body}
 use Rattle.proof_term.specs.RunOf.{StopsAs}
+use Rattle.proof_term.proofs.Bodies.{bodies_of_step}
 use Rattle.proof_term.specs.Running.{Env, one_step, run, called, statement_at, with_values}
 
 -- a stop that is passed on
@@ -32,12 +33,9 @@ module _ (p : Task) (steps : List Step) (i : ℕ) (s : Step) (lt : i < length st
   opened : steps_of (drop i steps) ≡ step s.stmt (subs_of s.subs) (steps_of (drop (i + 1) steps))
   opened = ap steps_of (drop_at steps i s lt is)
 
-  -- its statement has a body
-  pub body_here : HasBodies p (steps_of (drop i steps)) → IsSomeAnd (slice_get p.statements s.stmt) (λ t. IsSome t.body)
-  body_here h = (subst (HasBodies p) opened h).0
-
-  pub bodies_behind : HasBodies p (steps_of (drop i steps)) → HasBodies p (steps_of (drop (i + 1) steps))
-  bodies_behind h = (subst (HasBodies p) opened h).1.1
+  -- its statement has a body, and those of the steps behind it have
+  pub bodies_from : first_without_body p (steps_of (drop i steps)) ≡ None → IsSomeAnd (slice_get p.statements s.stmt) (λ t. IsSome t.body) × (first_without_body p (steps_of (drop (i + 1) steps)) ≡ None)
+  bodies_from h = bodies_of_step p s.stmt (subs_of s.subs) (steps_of (drop (i + 1) steps)) (ap (first_without_body p) (sym opened) ∙ h)
 
   pub run_on : (e next : Env) (t u : ℕ) → one_step p s.stmt (answered e) e t ≡ Ok (next, u) → run p (steps_of (drop i steps)) e t ≡ run p (steps_of (drop (i + 1) steps)) next u
   run_on e next t u h =

@@ -6,5 +6,5 @@ pub mod HasNoCall
 pub mod Agrees
 pub mod LocalValues
 pub mod Running
-pub mod HasBodies
+pub mod Bodies
 pub mod RunOf

@@ -5,7 +5,8 @@ use Rattle.priz_frac.specs.Ratio.{Ratio}
 use Rattle.body_lang.specs.BodyTree.{Tree, num}
 use Rattle.body_lang.specs.View.{body_tree}
 use Rattle.body_lang.specs.Mode.{narrowly}
-use Rattle.body_lang.specs.Values.{whole, value_at}
+use Rattle.body_lang.specs.Values.{value_at}
+use Rattle.priz_frac.specs.Whole.{whole}
 use Rattle.body_lang.specs.Meaning.{Answer, mean}
 use Rattle.body_lang.specs.Run.{Ran, then_with, turn_then}
 use Rattle.body_lang.specs.Stop.{Stop, no_row}

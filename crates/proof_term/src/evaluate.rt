@@ -11,9 +11,7 @@ ghost use Rattle.proof_term.specs.LocalValues.{local_values};
 ghost use Rattle.proof_term.specs.Agrees.{Agrees, part_at};
 
 use crate::locals::{Locals, local_at};
-use crate::numbers::{
-    holds, is_whole, operate, round_count, round_value, run_fault, value_at, whole,
-};
+use crate::numbers::{holds, is_whole, operate, round_count, round_value, run_fault, value_at};
 use body_lang::{Body, Op, RunFault};
 use priz_frac::Frac;
 
@@ -63,7 +61,8 @@ pub(crate) fn evaluate(
         } => {
             let (x, turns) = evaluate(first.get(), inputs, locals, turns)?;
             let (y, turns) = evaluate(second.get(), inputs, locals, turns)?;
-            gather(Op::Add, whole(0), x, y, each.get(), inputs, locals, turns)
+            let zero = Frac::from_whole(0);
+            gather(Op::Add, zero, x, y, each.get(), inputs, locals, turns)
         }
         Body::Prod {
             first,
@@ -72,7 +71,8 @@ pub(crate) fn evaluate(
         } => {
             let (x, turns) = evaluate(first.get(), inputs, locals, turns)?;
             let (y, turns) = evaluate(second.get(), inputs, locals, turns)?;
-            gather(Op::Mul, whole(1), x, y, each.get(), inputs, locals, turns)
+            let one = Frac::from_whole(1);
+            gather(Op::Mul, one, x, y, each.get(), inputs, locals, turns)
         }
         Body::Iter {
             first,

@@ -2,7 +2,6 @@ ghost use Rattle.std.specs.Prelude.{◌≡◌, ◌+◌, length, slice_get, Some,
 ghost use Rattle.body_lang.specs.Values.{value_at};
 ghost use Rattle.proof_term.specs.LocalValues.{local_values};
 
-use crate::numbers::whole;
 use priz_frac::Frac;
 
 /// The values of the loops around a point of a body, from the inside.
@@ -18,7 +17,7 @@ pub(crate) fn local_at(locals: &Locals, j: u32) -> Frac
 {
     match look(locals, j) {
         Ok(value) => value,
-        Err(_) => whole(0),
+        Err(_) => Frac::from_whole(0),
     }
 }
 

@@ -2,20 +2,13 @@
 ghost use Rattle.std.specs.Prelude.{◌≡◌, ◌≤◌, ◌<◌, ◌↔◌, pos, ◌+ℤ◌, unsigned_abs, IsTrue};
 ghost use Rattle.priz_frac.specs.Narrow.{widest};
 ghost use Rattle.body_lang.specs.Mode.{narrowly};
-ghost use Rattle.body_lang.specs.Values.{whole, value_at};
+ghost use Rattle.body_lang.specs.Values.{value_at};
+ghost use Rattle.priz_frac.specs.Whole.{whole};
 ghost use Rattle.body_lang.specs.Operation.{operate, holds, run_fault};
 ghost use Rattle.body_lang.specs.Rounds.{round_count};
 
 use body_lang::{Cmp, Op, RunFault};
 use priz_frac::{Frac, FracFault};
-
-/// A whole number as a fraction.
-pub(crate) fn whole(n: i64) -> Frac
-    requires { unsigned_abs n ≤ widest }
-    ensures { result ≡ whole n }
-{
-    Frac::of(i128::from(n), 1).unwrap()
-}
 
 /// The value of this number, or 0 where there is none.
 pub(crate) fn value_at(values: &[Frac], i: u32) -> Frac
@@ -23,7 +16,7 @@ pub(crate) fn value_at(values: &[Frac], i: u32) -> Frac
 {
     match values.get(i as usize) {
         Some(value) => *value,
-        None => whole(0),
+        None => Frac::from_whole(0),
     }
 }
 
@@ -82,6 +75,7 @@ pub(crate) fn round_value(first: Frac, second: Frac, k: u64) -> Frac
     requires { k < round_count first.num second.num }
     ensures { result ≡ whole (first.num +ℤ pos k) }
 {
-    let _last = second.num();
-    whole((first.num() as i128 + k as i128) as i64)
+    // The last of them fits, and so each before it.
+    let _ = second.num();
+    Frac::from_whole((first.num() as i128 + k as i128) as i64)
 }

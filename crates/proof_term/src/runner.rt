@@ -1,19 +1,20 @@
 //! The values that a block gives.
-ghost use Rattle.std.specs.Prelude.{◌≡◌, [], ℕ, pos, length, map, replicate, slice_get, All, IfOk, IfErr, Ok, IsSome, IsSomeAnd};
+ghost use Rattle.std.specs.Prelude.{◌≡◌, [], ℕ, pos, length, map, replicate, slice_get, IfOk, IfErr, Ok, None, IsSome, IsSomeAnd};
 ghost use Rattle.std.specs.Vec.{vec_items};
 ghost use Rattle.body_lang.specs.Mode.{narrowly};
-ghost use Rattle.body_lang.specs.Values.{whole, value_at};
+ghost use Rattle.body_lang.specs.Values.{value_at};
+ghost use Rattle.priz_frac.specs.Whole.{whole};
 ghost use Rattle.body_lang.specs.Meaning.{Answer, mean};
-ghost use Rattle.statement_set.specs.Problem.{var_count, given_vars};
+ghost use Rattle.statement_set.specs.Problem.{IsPlain, var_count, given_vars};
 ghost use Rattle.proof_term.specs.Plain.{steps_of};
 ghost use Rattle.proof_term.specs.Agrees.{Agrees};
-ghost use Rattle.proof_term.specs.HasBodies.{HasBodies};
+ghost use Rattle.proof_term.specs.Bodies.{first_without_body};
 ghost use Rattle.proof_term.specs.RunOf.{StopsAs};
 ghost use Rattle.proof_term.specs.Running.{start_of, with_values, run, one_step, body_at, goal_values};
 
 use crate::evaluate::evaluate;
 use crate::locals::Locals;
-use crate::numbers::{value_at, whole};
+use crate::numbers::value_at;
 use crate::{Block, RunStop, Step};
 use body_lang::RunFault;
 use priz_base::Var;
@@ -32,9 +33,9 @@ pub fn run_block(
     values: &[Frac],
     turns: u32,
 ) -> Result<Vec<Frac>, RunStop>
-    requires bodies { HasBodies problem.now block.now }
+    requires bodies { first_without_body problem.now block.now ≡ None }
     requires values { length values.now ≡ length problem.now.givens }
-    requires plain { All (λ s. s.subs ≡ []) problem.now.statements }
+    requires plain { IsPlain problem.now }
     ensures values { IfOk result (λ v. (left : ℕ) × (goal_values problem.now block.now values.now turns ≡ Ok (vec_items v, left))) }
     ensures stop { IfErr result (λ e. StopsAs e (goal_values problem.now block.now values.now turns)) }
 {
@@ -75,7 +76,7 @@ fn zeros(alloc: Global, count: u32) -> Result<Vec<Frac>, AllocError>
 {
     let mut env = Vec::new(alloc);
     for _i in 0..count {
-        env.push(whole(0))?;
+        env.push(Frac::from_whole(0))?;
     }
     Ok(env)
 }
@@ -87,9 +88,9 @@ fn run_steps(
     env: &mut [Frac],
     turns: u32,
 ) -> Result<u32, RunStop>
-    requires bodies { HasBodies problem.now (steps_of steps.now) }
+    requires bodies { first_without_body problem.now (steps_of steps.now) ≡ None }
     requires env { length env.old ≡ var_count problem.now }
-    requires plain { All (λ s. s.subs ≡ []) problem.now.statements }
+    requires plain { IsPlain problem.now }
     ensures end { IfOk result (λ left. run problem.now (steps_of steps.now) env.old turns ≡ Ok (env.new, left)) }
     ensures stop { IfErr result (λ e. StopsAs e (run problem.now (steps_of steps.now) env.old turns)) }
 {
@@ -109,7 +110,7 @@ fn run_step(
 ) -> Result<u32, RunStop>
     requires body { IsSomeAnd (slice_get problem.now.statements stmt) (λ s. IsSome s.body) }
     requires env { length env.old ≡ var_count problem.now }
-    requires plain { All (λ s. s.subs ≡ []) problem.now.statements }
+    requires plain { IsPlain problem.now }
     ensures next { IfOk result (λ left. (answer : Answer) → one_step problem.now stmt answer env.old turns ≡ Ok (env.new, left)) }
     ensures room { length env.new ≡ length env.old }
     ensures stop { IfErr result (λ e. (answer : Answer) → StopsAs e (one_step problem.now stmt answer env.old turns)) }
@@ -137,7 +138,7 @@ fn value_of(
     turns: u32,
 ) -> Result<(Frac, u32), RunFault>
     requires body { IsSomeAnd (slice_get problem.now.statements stmt) (λ s. IsSome s.body) }
-    requires plain { All (λ s. s.subs ≡ []) problem.now.statements }
+    requires plain { IsPlain problem.now }
     ensures { (answer : Answer) → Agrees stmt result (mean narrowly stmt answer (body_at problem.now stmt) inputs.now [] turns) }
 {
     problem.is_well_formed();

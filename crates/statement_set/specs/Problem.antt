@@ -39,6 +39,10 @@ subtasks_of p n = option_map_or (λ s. s.subs) (slice_get p.statements n) []
 abbrev pub subtask_count : Task → ℕ
 subtask_count p = sum_by (λ s. length s.subs) p.statements
 
+-- no statement has a subtask
+abbrev pub IsPlain : Task → Type 0
+IsPlain p = All (λ s. s.subs ≡ []) p.statements
+
 -- s is the problem's statement of that number
 abbrev pub IsStatementOf : Task → ℕ → Statement → Type 0
 IsStatementOf p n s = slice_get p.statements n ≡ Some s

@@ -1,6 +1,6 @@
 -- A text is read in one way.
 use Rattle.std.proofs.Common.{◌≡◌, ℕ, ◌<◌, true, false, List, [], ◌∷◌, ◌++◌, length, Option, Some, refl, sym, ap, subst, ◌∙◌, arith, inl, inr, ⊎_elim}
-use Rattle.std.specs.Prelude.{ℤ, pos}
+use Rattle.std.specs.Prelude.{◌⊎◌, ℤ, pos}
 use Rattle.std.specs.Char.{is_ascii_digit}
 use Rattle.std.specs.Str.{encode_utf8_all}
 use Rattle.std.proofs.lemmas.Bool.{and_parts, both_ways}
@@ -176,18 +176,64 @@ stands_same whole rest p q a b = a.2 ∙ ap (place_behind first_place) (append_c
 token_is : (t u : Tok) → t.kind ≡ u.kind → t.text ≡ u.text → t.place ≡ u.place → t ≡ u
 token_is t u a b c = λ i. record { kind = a i; text = b i; place = c i }
 
+-- two tokens at the front of the same characters are one, and the same follows them
+pub one_token : (whole cs : List ℕ) (t u : Tok) (x y : List ℕ) → cs ≡ t.text ++ x → cs ≡ u.text ++ y → Stands whole cs t.place → Stands whole cs u.place → IsToken t.kind t.text x → IsToken u.kind u.text y → (t ≡ u) × (x ≡ y)
+one_token whole cs t u x y a b p q r s =
+    let split : t.text ++ x ≡ u.text ++ y = sym a ∙ b in
+    let text = longest_same t.kind u.kind t.text x u.text y r.longest s.longest split in
+    let kind = front_kinds t.kind u.kind t.text x u.text y r.longest s.longest text in
+    (token_is t u kind text (stands_same whole cs t.place u.place p q), rest_same t.text x u.text y split text)
+
+-- the first of two readings stops where the second has one more token
+pub record StopsInside (whole : List ℕ) (ts us : List Tok) (stop : List ℕ) : Type 0 where
+  pub token : Tok
+  pub more : List Tok
+  pub rest : List ℕ
+  pub longer : us ≡ ts ++ token ∷ more
+  pub split : stop ≡ token.text ++ rest
+  pub stands : Stands whole stop token.place
+  pub is_token : IsToken token.kind token.text rest
+
+-- two readings stop together, or one of them stops inside the other
+abbrev pub Meet : List ℕ → List Tok → List Tok → List ℕ → List ℕ → Type 0
+Meet whole ts us x y = ((ts ≡ us) × (x ≡ y)) ⊎ (StopsInside whole ts us x ⊎ StopsInside whole us ts y)
+
+-- a reading of no token stops inside each longer one
+inside_first : (whole left : List ℕ) (u : Tok) (us : List Tok) (x y : List ℕ) → ReadsTo whole left [] x → ReadsTo whole left (u ∷ us) y → StopsInside whole [] (u ∷ us) x
+inside_first whole left u us x y r s = record { token = u; more = us; rest = s.0; longer = refl; split = sym r ∙ s.1; stands = subst (λ (l : List ℕ). Stands whole l u.place) r s.2; is_token = s.3 }
+
+-- one more token in front of both changes nothing
+inside_more : (whole : List ℕ) (t u : Tok) (ts us : List Tok) (x : List ℕ) → t ≡ u → StopsInside whole ts us x → StopsInside whole (t ∷ ts) (u ∷ us) x
+inside_more whole t u ts us x same i = record { token = i.token; more = i.more; rest = i.rest; longer = λ j. sym same j ∷ i.longer j; split = i.split; stands = i.stands; is_token = i.is_token }
+
+-- and so for how two readings meet
+meet_more : (whole : List ℕ) (t u : Tok) (ts us : List Tok) (x y : List ℕ) → t ≡ u → Meet whole ts us x y → Meet whole (t ∷ ts) (u ∷ us) x y
+meet_more whole t u ts us x y same (inl e) = inl ((λ i. same i ∷ e.0 i), e.1)
+meet_more whole t u ts us x y same (inr (inl i)) = inr (inl (inside_more whole t u ts us x same i))
+meet_more whole t u ts us x y same (inr (inr i)) = inr (inr (inside_more whole u t us ts y (sym same) i))
+
+-- of two readings one is a front of the other
+pub reads_meet : (whole left : List ℕ) (ts us : List Tok) (x y : List ℕ) → ReadsTo whole left ts x → ReadsTo whole left us y → Meet whole ts us x y
+reads_meet whole left [] [] x y r s = inl (refl, sym r ∙ s)
+reads_meet whole left [] (u ∷ us) x y r s = inr (inl (inside_first whole left u us x y r s))
+reads_meet whole left (t ∷ ts) [] x y r s = inr (inr (inside_first whole left t ts y x s r))
+reads_meet whole left (t ∷ ts) (u ∷ us) x y r s =
+    let same = one_token whole (past_gap false left) t u r.0 s.0 r.1 s.1 r.2 s.2 r.3 s.3 in
+    meet_more whole t u ts us x y same.0 (reads_meet whole r.0 ts us x y r.4 (subst (λ (l : List ℕ). ReadsTo whole l us y) (sym same.1) s.4))
+
+-- no reading goes on where no token stands
+pub none_inside : (whole : List ℕ) (ts us : List Tok) (x : List ℕ) → NoToken x → StopsInside whole ts us x → ⊥
+none_inside whole ts us x none i = none i.token.kind i.token.text i.rest i.split i.is_token
+
+-- where no token stands at either stop, both readings stop together
+same_stops : (whole : List ℕ) (ts us : List Tok) (x y : List ℕ) → NoToken x → NoToken y → Meet whole ts us x y → (ts ≡ us) × (x ≡ y)
+same_stops whole ts us x y nx ny (inl e) = e
+same_stops whole ts us x y nx ny (inr (inl i)) = absurd (none_inside whole ts us x nx i)
+same_stops whole ts us x y nx ny (inr (inr i)) = absurd (none_inside whole us ts y ny i)
+
 -- two readings up to where no token stands are the same
 pub reads_same : (whole left : List ℕ) (ts us : List Tok) (x y : List ℕ) → ReadsTo whole left ts x → ReadsTo whole left us y → NoToken x → NoToken y → (ts ≡ us) × (x ≡ y)
-reads_same whole left [] [] x y r s nx ny = (refl, sym r ∙ s)
-reads_same whole left [] (u ∷ us) x y r s nx ny = absurd (nx u.kind u.text s.0 (sym r ∙ s.1) s.3)
-reads_same whole left (t ∷ ts) [] x y r s nx ny = absurd (ny t.kind t.text r.0 (sym s ∙ r.1) r.3)
-reads_same whole left (t ∷ ts) (u ∷ us) x y r s nx ny =
-    let split : t.text ++ r.0 ≡ u.text ++ s.0 = sym r.1 ∙ s.1 in
-    let text = longest_same t.kind u.kind t.text r.0 u.text s.0 r.3.longest s.3.longest split in
-    let kind = front_kinds t.kind u.kind t.text r.0 u.text s.0 r.3.longest s.3.longest text in
-    let rest = rest_same t.text r.0 u.text s.0 split text in
-    let more = reads_same whole r.0 ts us x y r.4 (subst (λ (l : List ℕ). ReadsTo whole l us y) (sym rest) s.4) nx ny in
-    ((λ i. token_is t u kind text (stands_same whole (past_gap false left) t.place u.place r.2 s.2) i ∷ more.0 i), more.1)
+reads_same whole left ts us x y r s nx ny = same_stops whole ts us x y nx ny (reads_meet whole left ts us x y r s)
 
 pub one_list : (text : List ℕ) → OneList text
 one_list text ts us r s = (reads_same text text ts us [] [] r s none_at_end none_at_end).0

@@ -3,6 +3,7 @@ use Rattle.std.proofs.Common.{◌≡◌, ◌≢◌, ℕ, ◌+◌, ◌≤◌, fal
 use Rattle.std.specs.Str.{IsUtf8, chars, encode_utf8_all}
 use Rattle.std.proofs.lemmas.Str.{encodes-chars, IsUtf8-append, IsUtf8-nil, chars-append}
 use Rattle.priz_base.specs.declared.place.Place.{Place}
+use Rattle.priz_base.specs.Reading.{max_input}
 use Rattle.utopist_lexer.specs.declared.token.Kind.{Kind}
 use Rattle.utopist_lexer.specs.declared.token.Kind.TheVariants as kinds
 use Rattle.utopist_lexer.specs.declared.fault.LexKind.{LexKind}
@@ -15,7 +16,7 @@ use Rattle.utopist_lexer.specs.Cutting.{Parts, HasRoom, IsReached}
 use Rattle.utopist_lexer.proofs.Counting.{room_behind, behind-append}
 
 -- the start of a text is reached
-pub reached_first : (text : List ℕ) → IsUtf8 text → length text ≤ 1048576 → IsReached text text first_place
+pub reached_first : (text : List ℕ) → IsUtf8 text → length text ≤ max_input → IsReached text text first_place
 unfolding chars
 reached_first text u short = record {
   front = [];

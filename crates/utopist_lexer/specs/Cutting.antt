@@ -1,4 +1,4 @@
--- Where a text is cut.
+-- A text cut into a front and the rest, by bytes and by characters alike, and what the lexer's functions answer there.
 use Rattle.std.specs.Prelude.{◌≡◌, ◌≢◌, ◌⊎◌, ◌<◌, ◌≤◌, ℕ, ◌+◌, ◌^◌, Bool, true, false, List, [], ◌∷◌, ◌++◌, length, Option, Some, None, Result, Ok, Err, ℤ, pos}
 use Rattle.std.specs.Char.{encode_utf8}
 use Rattle.std.specs.List.{list_all}
@@ -19,7 +19,7 @@ pub record Parts (text front rest : List ℕ) : Type 0 where
   pub front_utf8 : IsUtf8 front
   pub rest_utf8 : IsUtf8 rest
 
--- nothing stands here, or what doesn't pass
+-- nothing stands here, or a character that doesn't pass
 abbrev pub StopsAt : (ℕ → Bool) → List ℕ → Type 0
 StopsAt p [] = Unit {0}
 StopsAt p (c ∷ cs) = p c ≡ false
@@ -53,18 +53,18 @@ abbrev pub FrontOf : List ℕ → Result (Kind × Bor (List ℕ) × Bor (List �
 FrontOf text (Ok x) = Parts text x.1.now x.2.now × (IsToken x.0 (chars x.1.now) (chars x.2.now) ⊎ ((x.0 ≡ kinds.End) × (chars text ≡ [])))
 FrontOf text (Err k) = (chars text ≢ []) × Faulty k (chars text)
 
--- the value of digits, or none where it is too great
+-- the value of digits, or none where it is greater than the greatest number
 abbrev pub IsValue : List ℕ → Option ℤ → Type 0
 IsValue digits None = max_number < value_of digits
 IsValue digits (Some i) = (i ≡ pos (value_of digits)) × (value_of digits ≤ max_number)
 
--- the numbers of a place can grow by so much
+-- each number of a place can grow by so much and stays below 2^32
 pub record HasRoom (p : Place) (n : ℕ) : Type 0 where
   pub at : p.at + n < 2 ^ 32
   pub line : p.line + n < 2 ^ 32
   pub col : p.col + n < 2 ^ 32
 
--- the rest of a text was reached, and stands at this place
+-- the rest of a text was reached, and stands at this place, whose numbers can grow by all that is left
 pub record IsReached (text rest : List ℕ) (p : Place) : Type 0 where
   pub front : List ℕ
   pub parts : Parts text front rest

@@ -26,9 +26,9 @@ IsLoneDollar (c ∷ d ∷ cs) = (c ≡ 36) × (is_ascii_digit d ≡ false)
 abbrev pub Faulty : LexKind → List ℕ → Type 0
 -- a name that is too long
 Faulty fault.NameTooLong cs = (x : Front cs) × (x.kind ≡ kinds.Name) × (max_name < length (encode_utf8_all x.text))
--- a lone $, or a number that isn't free behind
+-- a lone $, or a number, with $ or without, that isn't free behind
 Faulty fault.BadNumber cs = IsLoneDollar cs ⊎ ((x : Front cs) × (n : ℕ) × IsNumeral x.kind n × ¬ IsFree x.rest)
--- a number that is free behind, and too great
+-- a number, with $ or without, that is free behind and too great
 Faulty fault.NumberTooWide cs = (x : Front cs) × (n : ℕ) × IsNumeral x.kind n × IsFree x.rest × (max_number < n)
--- no front spells a token
+-- no lone $, and no front spells a token
 Faulty fault.BadChar cs = ¬ IsLoneDollar cs × ((k : Kind) (text rest : List ℕ) → cs ≡ text ++ rest → ¬ Spells k text)

@@ -1,8 +1,8 @@
--- Blanks and comments.
+-- The gap before a token: blanks and comments.
 use Rattle.std.specs.Prelude.{ℕ, Bool, true, false, not, ◌==◌, if◌then◌else◌, List, [], ◌∷◌}
 use Rattle.utopist_lexer.specs.Characters.{is_blank}
 
--- what stands behind blanks and comments, which go from # to before the next line feed or to the end, where the test says whether the front is inside one
+-- what stands behind blanks and comments, which go from # to before the next line feed or to the end; the flag says whether the front is inside a comment
 abbrev pub past_gap : Bool → List ℕ → List ℕ
 past_gap inside [] = []
 past_gap true (c ∷ cs) = past_gap (not (c == 10)) cs

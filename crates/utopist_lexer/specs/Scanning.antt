@@ -23,13 +23,13 @@ place_of t = record { at = t.at; line = t.line; col = t.col }
 abbrev pub tok : Token → Tok
 tok t = record { kind = t.kind; text = chars t.text.now; place = place_of t }
 
--- the next token, and what is left behind it; the end comes where nothing is left behind the gap
+-- the next token, which stands behind the gap, and what is left behind it
 pub record IsNext (s : Scan) (t : Tok) (after : List ℕ) : Type 0 where
   pub split : past_gap false s.left ≡ t.text ++ after
   pub place : Stands s.whole (past_gap false s.left) t.place
   pub token : IsToken t.kind t.text after
 
--- the end of the text; it stays
+-- the end of the text, where nothing is left behind the gap; nothing is left then, so that the end comes again
 pub record IsEnd (s : Scan) (t : Tok) (after : List ℕ) : Type 0 where
   pub kind : t.kind ≡ kinds.End
   pub nothing : past_gap false s.left ≡ []
@@ -37,7 +37,7 @@ pub record IsEnd (s : Scan) (t : Tok) (after : List ℕ) : Type 0 where
   pub empty : t.text ≡ []
   pub place : Stands s.whole [] t.place
 
--- why no token is next; nothing is taken, so that the same fault comes again
+-- why no token is next, though something is left behind the gap; nothing is taken, so that the same fault comes again
 pub record IsFault (s : Scan) (f : LexFault) (after : List ℕ) : Type 0 where
   pub stays : after ≡ s.left
   pub some : past_gap false s.left ≢ []

@@ -8,10 +8,10 @@ use Rattle.utopist_lexer.specs.declared.mark.Mark.{Mark}
 use Rattle.utopist_lexer.specs.declared.mark.TheConstants.{MARKS}
 use Rattle.utopist_lexer.specs.Spelling.{word_text, mark_text}
 
--- the keyword of these characters
+-- the keyword of these characters, or none
 abbrev pub word_of : List ℕ → Option Word
 word_of text = find (λ w. bytes_eq (word_text w) text) WORDS
 
--- the mark at the front, the longer one where one begins with the other
+-- the mark at the front, or none; the longer one where one begins with the other
 abbrev pub mark_at : List ℕ → Option Mark
 mark_at text = find (λ m. starts_with nat_eq text (mark_text m)) MARKS

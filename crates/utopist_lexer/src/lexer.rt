@@ -1,6 +1,7 @@
 //! The tokens of a text, one at a time.
 ghost use Rattle.std.specs.Prelude.{◌≡◌, ◌≤◌, length, IfOk};
 ghost use Rattle.std.specs.Str.{chars, encode_utf8_all};
+ghost use Rattle.priz_base.specs.Reading.{max_input};
 ghost use Rattle.utopist_lexer.specs.Scanning.{tok, NextOf};
 
 use crate::fault::LexFault;
@@ -33,7 +34,7 @@ impl<'a> Model for Lexer<'a> {
 
 impl<'a> Lexer<'a> {
     pub fn new(text: &'a str) -> Lexer<'a>
-        requires { length text.now ≤ 1048576 }
+        requires { length text.now ≤ max_input }
         ensures { result ≡ record { whole = chars text.entry.now; left = chars text.entry.now } }
     {
         Lexer {

@@ -17,6 +17,7 @@ mod Loops
 mod Lows
 mod Meeting
 mod NoEnd
+pub mod OneAnswer
 mod Operands
 mod OperatorGroups
 mod PathRules

@@ -25,7 +25,7 @@ use Rattle.utopist_parser.specs.WrittenFile.{WrittenCompute, WrittenFile}
 use Rattle.utopist_parser.specs.FileSymbols.{spell_file}
 use Rattle.utopist_parser.specs.FileSeen.{see_compute, see_file}
 use Rattle.utopist_parser.specs.FileNesting.{IsFile}
-use Rattle.utopist_parser.specs.Begins.{BeginsWithin, BeginsFile, BeginsNone, BeginsTooDeep, FirstWrong}
+use Rattle.utopist_parser.specs.Begins.{BeginsWithin, BeginsNone, BeginsTooDeep, FirstWrong}
 use Rattle.utopist_parser.specs.Forms.{ReadsAs, FirstFault, HasNoTree, ParseOf}
 use Rattle.utopist_parser.specs.Steps.{Reading, Why, Fault, expected, deep}
 use Rattle.utopist_parser.specs.ReadingFile.{file_at}
@@ -47,11 +47,12 @@ file_laws M = (file_rule {m = all_laws} {room = M}).keeps
 ok_err : (x : FileTree × List Symbol) (e : Fault) (r : Reading FileTree) → r ≡ Ok x → r ≡ Err e → ⊥
 ok_err x e r h i = cc
 
-both_ok : (x y : FileTree × List Symbol) (r : Reading FileTree) → r ≡ Ok x → r ≡ Ok y → x ≡ y
+-- a reading gives one answer
+pub both_ok : (x y : FileTree × List Symbol) (r : Reading FileTree) → r ≡ Ok x → r ≡ Ok y → x ≡ y
 both_ok x y r h i = cc
 
 -- each file is read where there is room for it
-file_again : (M : ℕ) (w : WrittenFile) → IsFile (suc M) w → file_at M (spell_file w) ≡ Ok (see_file w, [])
+pub file_again : (M : ℕ) (w : WrittenFile) → IsFile (suc M) w → file_at M (spell_file w) ≡ Ok (see_file w, [])
 file_again M w h = ap (file_at M) (sym (append-nil (spell_file w))) ∙ ((file_laws M).again M).again w h [] tt
 
 -- where a reading is stuck, no file goes on within the limit

@@ -29,7 +29,7 @@ BeginsNone ts = ¬ BeginsFile ts
 abbrev pub BeginsTooDeep : List Symbol → Type 0
 BeginsTooDeep ts = BeginsFile ts × ¬ BeginsWithin max_nesting ts
 
--- the symbol at the front of some characters, which is the end where there are none
+-- the symbol at the front of some characters, which stand at this place; it is the end where there are none
 abbrev pub SymbolAt : List ℕ → Place → Symbol → Type 0
 SymbolAt left place next = ((left ≡ []) × (next ≡ end))
     ⊎ ((t : Tok) × (rest : List ℕ) × (left ≡ t.text ++ rest) × IsToken t.kind t.text rest × (t.place ≡ place) × (next ≡ symbol_of t))

@@ -1,4 +1,4 @@
--- Tokens that begin a form, case by case.
+-- Which symbols are of a form of the grammar, and which begin one, case by case.
 use Rattle.std.specs.Prelude.{◌≡◌, ◌⊎◌, ℕ, zero, suc, pos, List, [], ◌∷◌, ◌++◌, All}
 use Rattle.priz_base.specs.declared.place.Place.{Place}
 use Rattle.utopist_lexer.specs.declared.word.Word.{Word}
@@ -20,7 +20,7 @@ pub data Sort : Type 0 where
   a_subtask : Sort
   this : Kind → Sort
 
--- the symbol of such a token
+-- a symbol of such a token
 abbrev pub IsOf : Sort → Symbol → Type 0
 IsOf a_name c = (n : Named) × (c ≡ name n)
 IsOf a_number c = (n : ℕ) × (c ≡ number (pos n))

@@ -16,7 +16,7 @@ use Rattle.utopist_parser.specs.ExprTree.{see_chain}
 use Rattle.utopist_parser.specs.Nesting.{nest_chain}
 use Rattle.utopist_parser.specs.FileSeen.{see_value}
 
--- what is written has these symbols, this tree and this nesting
+-- a chain as it is written has these symbols, this tree and this nesting
 pub record Reads (written : Chain) (symbols : List Symbol) (seen : Tree) (nesting : ℕ) : Type 0 where
   pub spelled : spell_chain written ≡ symbols
   pub tree : see_chain written ≡ seen
@@ -24,13 +24,15 @@ pub record Reads (written : Chain) (symbols : List Symbol) (seen : Tree) (nestin
 
 -- ---- parts
 
--- the name of one letter
+-- the name of these bytes, at the first place
 abbrev pub called : List ℕ → Named
 called letter = record { text = letter; place = first_place }
 
+-- the name a
 abbrev pub a : Named
 a = called (codes "a")
 
+-- the name b
 abbrev pub b : Named
 b = called (codes "b")
 
@@ -38,13 +40,15 @@ b = called (codes "b")
 abbrev pub var : Named → Factor
 var n = variable (record { first = n; more = [] })
 
--- a factor as a term, a chain and an expression of its own
+-- a factor as a term of its own
 abbrev pub term_of : Factor → Term
 term_of f = one_factor f
 
+-- a factor as a chain of its own
 abbrev pub chain_of : Factor → Chain
 chain_of f = one_term (term_of f)
 
+-- a factor as an expression of its own
 abbrev pub expr_of : Factor → Expression
 expr_of f = plain (chain_of f)
 
@@ -52,16 +56,18 @@ expr_of f = plain (chain_of f)
 abbrev pub leaf : Named → Tree
 leaf n = tree.path (n ∷ [])
 
--- ---- a - b - a, and (a + 1) * -2
+-- ---- differences and products
 
+-- a - b - a
 abbrev pub differences : Chain
 differences = add (add (chain_of (var a)) minus (term_of (var b))) minus (term_of (var a))
 
--- the left one is taken first
+-- of two differences the left one is taken first
 abbrev pub DifferencesGroupFromTheLeft : Type 0
 DifferencesGroupFromTheLeft =
     Reads differences (name a ∷ mark marks.Minus ∷ name b ∷ mark marks.Minus ∷ name a ∷ []) (tree.op ops.Sub (tree.op ops.Sub (leaf a) (leaf b)) (leaf a)) 3
 
+-- (a + 1) * -2
 abbrev pub product : Chain
 product = one_term (mul (term_of (round (plain (add (chain_of (var a)) plus (term_of (literal 1)))))) times (negated (literal 2)))
 
@@ -72,14 +78,15 @@ ParenthesesVanish =
     (mark marks.OpenRound ∷ name a ∷ mark marks.Plus ∷ number (pos 1) ∷ mark marks.CloseRound ∷ mark marks.Star ∷ mark marks.Minus ∷ number (pos 2) ∷ [])
     (tree.op ops.Mul (tree.op ops.Add (leaf a) (tree.num (pos 1))) (tree.neg (tree.num (pos 2)))) 4
 
--- ---- if a < b then $1(a, b) else sum(b, 1, a.b, b)
+-- ---- a choice, a call and a loop
 
+-- if a < b then $1(a, b) else sum(b, 1, a.b, b)
 abbrev pub branches : Expression
 branches =
     choice (chain_of (var a)) cmps.Less (chain_of (var b)) (expr_of (call 1 first_place (expr_of (var a)) (and_then (expr_of (var b)) no_more)))
     (expr_of (loop loops.Sum b (expr_of (literal 1)) (expr_of (variable (record { first = a; more = b ∷ [] }))) (expr_of (var b))))
 
--- a choice, a call and a loop, with a path of two names
+-- a choice in parentheses holds a call and a loop, and in the loop a path of two names
 abbrev pub ChoicesHoldCallsAndLoops : Type 0
 ChoicesHoldCallsAndLoops =
     Reads (chain_of (round branches))

@@ -1,4 +1,4 @@
--- concept a:(var x,y:numeric;eq x=(y+1)*-2;);compute a:(given x=4/6;find y);
+-- The file 'concept a:(var x,y:numeric;eq x=(y+1)*-2;);compute a:(given x=4/6;find y);' with its symbols and its tree.
 use Rattle.std.specs.Prelude.{◌≡◌, false, List, [], ◌∷◌, pos, codes, None, Some}
 use Rattle.body_lang.specs.declared.op.Op.TheVariants as ops
 use Rattle.utopist_lexer.specs.declared.word.Word.TheVariants as words
@@ -17,12 +17,15 @@ use Rattle.utopist_parser.specs.FileSeen.{see_file}
 use Rattle.utopist_parser.specs.Examples.{called, chain_of, term_of, leaf}
 use Rattle.utopist_parser.specs.Examples as example
 
+-- the name a
 abbrev pub a : Named
 a = called (codes "a")
 
+-- the name x
 abbrev pub x : Named
 x = called (codes "x")
 
+-- the name y
 abbrev pub y : Named
 y = called (codes "y")
 

@@ -5,7 +5,7 @@ use Rattle.utopist_parser.specs.WrittenFile.{WrittenItem, var, eq, rel, WrittenC
 use Rattle.utopist_parser.specs.Nesting.{nest_expr, nest_chain}
 use Rattle.utopist_parser.specs.Arithmetic.{IsArith}
 
--- a side of an equation
+-- a side of an equation: arithmetic within the limit
 abbrev pub IsSide : ℕ → Chain → Type 0
 IsSide limit c = (nest_chain c ≤ limit) × IsArith c
 
@@ -20,10 +20,10 @@ IsItem limit (var ns kind) = Unit {0}
 IsItem limit (eq left right) = IsSide limit left × IsSide limit right
 IsItem limit (rel n parts output body) = IsBody limit body
 
--- a concept within it
+-- a concept, each item of which is within the limit
 abbrev pub IsConcept : ℕ → WrittenConcept → Type 0
 IsConcept limit c = All (IsItem limit) c.items
 
--- a file within it
+-- a file, each concept of which is within the limit
 abbrev pub IsFile : ℕ → WrittenFile → Type 0
 IsFile limit f = All (IsConcept limit) f.concepts

@@ -40,7 +40,7 @@ abbrev pub see_kind : WrittenKind → VarKind
 see_kind numeric = kinds.Numeric
 see_kind (component n binds) = kinds.Of n
 
--- its bindings
+-- the bindings of what a variable is
 abbrev pub see_binds : WrittenKind → List Bind
 see_binds numeric = []
 see_binds (component n binds) = map see_bind (all_if_any binds)
@@ -69,7 +69,7 @@ denominator (Some d) = suc d
 abbrev pub see_value : WrittenNumber → Ratio
 see_value x = low (signed_ratio x.negative x.above (denominator x.below))
 
--- what is given
+-- a path that is given, with its value where one is written
 abbrev pub see_given : WrittenGiven → GivenPath
 see_given g = record { path = see_path g.path; value = see_option see_value g.value }
 

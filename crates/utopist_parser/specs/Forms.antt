@@ -24,7 +24,7 @@ pub record ReadsAs (text : List ℕ) (f : FileTree) : Type 0 where
   pub grammar : map symbol_of tokens ++ (end ∷ []) ≡ spell_file written
   pub tree : see_file written ≡ f
 
--- the first fault of a text is this one, behind tokens that begin a file
+-- the first fault of a text is this one, behind tokens that begin a file within the limit
 pub record FirstFault (text : List ℕ) (f : LexFault) : Type 0 where
   pub before : List Tok
   pub fault : FaultAt (chars text) before f.place f.kind
@@ -34,10 +34,17 @@ pub record FirstFault (text : List ℕ) (f : LexFault) : Type 0 where
 abbrev pub HasNoTree : List ℕ → Type 0
 HasNoTree text = (f : FileTree) → ¬ ReadsAs text f
 
--- the one tree of a text, or its first wrong place
+-- the one tree of a text; or its first fault or its first wrong token, and then it has no tree; nothing is said where memory ran out
 abbrev pub ParseOf : List ℕ → Result File ParseFault → Type 0
 ParseOf text (Ok f) = ReadsAs text (file_tree f) × ((g : FileTree) → ReadsAs text g → g ≡ file_tree f)
 ParseOf text (Err (fault.Lex f)) = FirstFault text f × HasNoTree text
 ParseOf text (Err (fault.Expected p)) = FirstWrong BeginsNone (chars text) p × HasNoTree text
 ParseOf text (Err (fault.TooDeep p)) = FirstWrong BeginsTooDeep (chars text) p × HasNoTree text
 ParseOf text (Err fault.NoMem) = Unit {0}
+
+-- reading the text ends at this: the first fault of its tokens, or its first wrong token
+abbrev pub FailsAs : List ℕ → ParseFault → Type 0
+FailsAs text (fault.Lex f) = FirstFault text f
+FailsAs text (fault.Expected p) = FirstWrong BeginsNone (chars text) p
+FailsAs text (fault.TooDeep p) = FirstWrong BeginsTooDeep (chars text) p
+FailsAs text fault.NoMem = ⊥

@@ -1,4 +1,4 @@
--- Reading names and paths.
+-- Reading lists of parts with a separator between them: names and paths.
 use Rattle.std.specs.Prelude.{List, ◌∷◌}
 use Rattle.utopist_lexer.specs.declared.mark.Mark.{Mark}
 use Rattle.utopist_lexer.specs.declared.mark.Mark.TheVariants as marks

@@ -1,5 +1,5 @@
--- Reading expressions, with the nesting of what was read. A reader at a room reads what is nested at most one more.
-use Rattle.std.specs.Prelude.{ℕ, zero, suc, ℤ, max, nat_le, Bool, true, false, ◌&&◌, ◌||◌, if◌then◌else◌, List, ◌∷◌, [], length, drop, Option, Some, None, Ok, Err}
+-- Reading expressions, with the nesting of what was read: a reader at a room reads what is nested at most one more than the room.
+use Rattle.std.specs.Prelude.{ℕ, zero, suc, max, nat_le, Bool, true, false, ◌&&◌, ◌||◌, if◌then◌else◌, List, ◌∷◌, [], length, drop, Option, Some, None, Ok, Err}
 use Rattle.body_lang.specs.declared.op.Op.{Op}
 use Rattle.body_lang.specs.declared.op.Op.TheVariants as ops
 use Rattle.body_lang.specs.declared.cmp.Cmp.{Cmp}
@@ -10,7 +10,6 @@ use Rattle.utopist_lexer.specs.declared.word.Word.TheVariants as words
 use Rattle.utopist_lexer.specs.declared.mark.Mark.TheVariants as marks
 use Rattle.utopist_lexer.specs.declared.token.Kind.TheVariants as kinds
 use Rattle.utopist_syntax.specs.Tree.{Tree, Trees, num, path, neg, op, choice, loop, call, none, more}
-use Rattle.utopist_syntax.specs.View.{trees}
 use Rattle.utopist_parser.specs.declared.breadth.Breadth.{Breadth}
 use Rattle.utopist_parser.specs.declared.breadth.Breadth.TheVariants as breadth
 use Rattle.utopist_parser.specs.Symbols.{Symbol}
@@ -32,7 +31,7 @@ sign_of o = if meets (is_mark marks.Plus) o then Some ops.Add else (if meets (is
 abbrev pub scale_of : Option Symbol → Option Op
 scale_of o = if meets (is_mark marks.Star) o then Some ops.Mul else (if meets (is_mark marks.Slash) o then Some ops.Div else None)
 
--- two operands of an operator
+-- an operator and its two operands, nested one deeper than the deeper of them
 abbrev pub joined : Op → Nested → Nested → Nested
 joined o v w = (op o v.0 w.0, suc (max v.1 w.1))
 
@@ -53,7 +52,7 @@ group_at find first operand room ts = on_ok (first room ts) (λ x. more_at find 
 
 -- ---- the parts that are one level deeper, where `factor`, `chain` and `expr` read theirs
 
--- one level more than the most of the parts
+-- the most that a part is nested, or 0 where there are none
 abbrev pub most : List Nested → ℕ
 most [] = 0
 most (v ∷ vs) = max v.1 (most vs)
@@ -146,13 +145,15 @@ abbrev pub is_all : Breadth → Bool
 is_all breadth.All = true
 is_all breadth.Arithmetic = false
 
--- whether a symbol begins such a form
+-- whether a symbol begins a call that may stand there
 abbrev pub begins_call : Breadth → Symbol → Bool
 begins_call b c = is_all b && is_sub c
 
+-- whether a symbol begins a loop that may stand there
 abbrev pub begins_loop : Breadth → Symbol → Bool
 begins_loop b c = is_all b && (is_word words.Sum c || (is_word words.Prod c || is_word words.Iter c))
 
+-- whether a symbol begins a choice that may stand there
 abbrev pub begins_choice : Breadth → Symbol → Bool
 begins_choice b c = is_all b && is_word words.If c
 
@@ -172,7 +173,7 @@ pub record Levels : Type 0 where
   pub chain : ReadOf Nested
   pub expr : ReadOf Nested
 
--- a reader at any room, which is the one at this room
+-- a reader that is the same at each room
 abbrev pub settled : {V : Type 0} → ReadOf V → StepOf V
 settled read room = read
 
@@ -180,39 +181,47 @@ settled read room = read
 abbrev pub too_deep : ReadOf Nested
 too_deep ts = Err (deep, length ts)
 
+-- the readers where nothing may be nested
 abbrev pub no_levels : Levels
 no_levels = record { factor = too_deep; term = too_deep; chain = too_deep; expr = too_deep }
 
--- the levels at a room, over those one level below
+-- a factor, over the readers one level below
 abbrev pub factor_over : Breadth → Levels → StepOf Nested
 factor_over b low = factor_step b (settled low.factor) (settled low.expr)
 
+-- term = factor {("*" | "/") factor}, over the readers one level below
 abbrev pub term_over : Breadth → Levels → StepOf Nested
 term_over b low = group_at scale_of (factor_over b low) (settled low.factor)
 
+-- chain = term {("+" | "-") term}, over the readers one level below
 abbrev pub chain_over : Breadth → Levels → StepOf Nested
 chain_over b low = group_at sign_of (term_over b low) (settled low.term)
 
+-- expr = chain | choice, the latter outside arithmetic, over the readers one level below
 abbrev pub expr_over : Breadth → Levels → StepOf Nested
 expr_over b low = choose_at (begins_choice b) (deeper_at (choice_step (settled low.chain) (settled low.expr))) (chain_over b low)
 
+-- all four at a room, over the readers one level below
 abbrev pub levels_over : Breadth → ℕ → Levels → Levels
 levels_over b room low = record { factor = factor_over b low room; term = term_over b low room; chain = chain_over b low room; expr = expr_over b low room }
 
--- the levels for what is nested at most so deep
+-- the readers of what is nested at most so deep
 abbrev pub levels_within : Breadth → ℕ → Levels
 levels_within b zero = no_levels
 levels_within b (suc limit) = levels_over b limit (levels_within b limit)
 
--- the readers at a room
+-- a factor, nested at most one more than the room
 unfoldable pub factor_at : Breadth → StepOf Nested
 factor_at b room = (levels_over b room (levels_within b room)).factor
 
+-- a term, nested at most one more than the room
 unfoldable pub term_at : Breadth → StepOf Nested
 term_at b room = (levels_over b room (levels_within b room)).term
 
+-- a chain, nested at most one more than the room
 unfoldable pub chain_at : Breadth → StepOf Nested
 chain_at b room = (levels_over b room (levels_within b room)).chain
 
+-- an expression, nested at most one more than the room
 unfoldable pub expr_at : Breadth → StepOf Nested
 expr_at b room = (levels_over b room (levels_within b room)).expr

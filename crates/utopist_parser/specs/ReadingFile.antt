@@ -1,5 +1,5 @@
--- Reading files.
-use Rattle.std.specs.Prelude.{ℤ, pos, unsigned_abs, Bool, true, false, ◌||◌, List, ◌∷◌, [], Option, Some, None}
+-- Reading items, concepts, compute statements and files.
+use Rattle.std.specs.Prelude.{ℤ, pos, unsigned_abs, Bool, true, false, ◌||◌, List, [], Option, Some, None}
 use Rattle.priz_frac.specs.Ratio.{Ratio}
 use Rattle.priz_frac.specs.Lowest.{low}
 use Rattle.priz_frac.specs.Sign.{signed_ratio}
@@ -7,7 +7,6 @@ use Rattle.utopist_lexer.specs.declared.word.Word.TheVariants as words
 use Rattle.utopist_lexer.specs.declared.mark.Mark.TheVariants as marks
 use Rattle.utopist_lexer.specs.declared.token.Kind.TheVariants as kinds
 use Rattle.utopist_syntax.specs.Named.{Named}
-use Rattle.utopist_syntax.specs.declared.path.Path.{Path}
 use Rattle.utopist_syntax.specs.declared.item.VarKind.{VarKind}
 use Rattle.utopist_syntax.specs.declared.item.VarKind.TheVariants as var_kinds
 use Rattle.utopist_syntax.specs.declared.item.Bind.{Bind}
@@ -140,7 +139,7 @@ rel_at = do
   u ← mark_at marks.Semicolon
   give (rel n ps o b)
 
--- item
+-- item = var | eq | rel
 unfoldable pub item_at : StepOf ItemTree
 item_at = choose_at (is_word words.Var) var_at (choose_at (is_word words.Eq) eq_at rel_at)
 
@@ -180,7 +179,7 @@ concept_at = do
 
 -- ---- compute statements
 
--- whether a minus was read
+-- "-"
 unfoldable pub minus_at : StepOf Bool
 minus_at = do
   u ← mark_at marks.Minus

@@ -1,5 +1,5 @@
 -- Reading one symbol.
-use Rattle.std.specs.Prelude.{ℤ, pos, negsuc, suc, Bool, true, false, ◌||◌, if◌then◌else◌, Option, Some, None}
+use Rattle.std.specs.Prelude.{ℤ, pos, negsuc, suc, Bool, true, false, if◌then◌else◌, Option, Some, None}
 use Rattle.priz_base.specs.declared.place.Place.{Place}
 use Rattle.utopist_lexer.specs.declared.word.Word.{Word}
 use Rattle.utopist_lexer.specs.declared.mark.Mark.{Mark}
@@ -8,7 +8,7 @@ use Rattle.utopist_lexer.specs.declared.token.Kind.TheVariants as kinds
 use Rattle.utopist_lexer.specs.Kinds.{same_kind}
 use Rattle.utopist_syntax.specs.Named.{Named}
 use Rattle.utopist_parser.specs.Symbols.{Symbol, name, sub, fixed}
-use Rattle.utopist_parser.specs.Steps.{StepOf, token_at, meets}
+use Rattle.utopist_parser.specs.Steps.{StepOf, token_at}
 
 -- the kind of a symbol
 abbrev pub kind_of : Symbol → Kind
@@ -59,18 +59,18 @@ abbrev pub positive : ℤ → Option ℤ
 positive (pos (suc n)) = Some (pos (suc n))
 positive i = None
 
--- the number of a kind
+-- the number of a kind, where it has one that passes
 abbrev pub number_of : (ℤ → Option ℤ) → Kind → Option ℤ
 number_of wanted (kinds.Number i) = wanted i
 number_of wanted k = None
 
--- a number
+-- a number that passes
 abbrev pub want_number : (ℤ → Option ℤ) → Symbol → Option ℤ
 want_number wanted (name n) = None
 want_number wanted (sub i p) = None
 want_number wanted (fixed k) = number_of wanted k
 
--- a value with a place
+-- a value, where there is one, with a place
 abbrev pub placed : Place → Option ℤ → Option (ℤ × Place)
 placed p None = None
 placed p (Some i) = Some (i, p)

@@ -1,4 +1,4 @@
--- Reading in steps, for values of any type.
+-- Reading symbols in steps, each of which gives a value and what is left, or fails at a symbol.
 use Rattle.std.specs.Prelude.{ℕ, zero, suc, Bool, false, if◌then◌else◌, List, [], ◌∷◌, length, drop, Option, Some, None, Result, Ok, Err}
 use Rattle.utopist_parser.specs.Symbols.{Symbol}
 
@@ -29,7 +29,7 @@ infixl 10 ◌>>=◌
 abbrev pub ◌>>=◌ : {V W : Type 0} → StepOf V → (V → StepOf W) → StepOf W
 f >>= k = λ room ts. on_ok (f room ts) (λ p. k p.0 room p.1)
 
--- nothing more
+-- this value, and nothing is read
 abbrev pub give : {V : Type 0} → V → StepOf V
 give v room ts = Ok (v, ts)
 

@@ -14,7 +14,7 @@ use Rattle.utopist_parser.specs.Symbols.{symbol_of, symbols}
 abbrev pub end_at : Place → Tok
 end_at p = record { kind = kinds.End; text = []; place = p }
 
--- the tokens of a text and its end, or those before its first fault
+-- these are the tokens of a text, and its end as the last
 pub record WholeTokens (text : List ℕ) (items : List Token) : Type 0 where
   pub tokens : List Tok
   pub place : Place
@@ -22,10 +22,11 @@ pub record WholeTokens (text : List ℕ) (items : List Token) : Type 0 where
   pub read : Reads text tokens
   pub stands : Stands text [] place
 
+-- these are the tokens of a text before this, its first fault
 pub record FaultyTokens (text : List ℕ) (items : List Token) (f : LexFault) : Type 0 where
   pub fault : FaultAt text (map tok items) f.place f.kind
 
--- these are the tokens of a text, up to its end or its first fault
+-- these are the tokens of a text, with its end or before its first fault, and the code's symbols are those of the tokens
 abbrev pub TokensOf : List ℕ → List Token → Option LexFault → Type 0
 TokensOf text items None = WholeTokens text items × (symbols items ≡ map symbol_of (map tok items))
 TokensOf text items (Some f) = FaultyTokens text items f × (symbols items ≡ map symbol_of (map tok items))

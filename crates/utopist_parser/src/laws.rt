@@ -1,5 +1,8 @@
 //! Laws of the grammar.
 ghost use Rattle.std.specs.Prelude.{◌≡◌, ◌↔◌, ◌++◌, ℕ, List};
+ghost use Rattle.utopist_syntax.specs.FileTree.{FileTree};
+ghost use Rattle.utopist_parser.specs.declared.parser.ParseFault.{ParseFault};
+ghost use Rattle.utopist_parser.specs.Forms.{ReadsAs, FailsAs};
 ghost use Rattle.utopist_parser.specs.Symbols.{Symbol};
 ghost use Rattle.utopist_parser.specs.WrittenFile.{WrittenFile};
 ghost use Rattle.utopist_parser.specs.FileSymbols.{spell_file};
@@ -14,6 +17,13 @@ pub fn symbols_begin_what_goes_on()
     ensures forms { (f : Form) (ts : List Symbol) → BeginForm f ts ↔ ((more : List Symbol) × AreForm f (ts ++ more)) }
     ensures files { (limit : ℕ) (ts : List Symbol) → AreForm (file_form limit) ts ↔ ((w : WrittenFile) × IsFile limit w × (spell_file w ≡ ts)) }
     ensures begins { (limit : ℕ) (ts : List Symbol) → BeginForm (file_form limit) ts ↔ BeginsWithin limit ts }
+{}
+
+/// A text has at most one tree, or fails in at most one way, and never both.
+pub fn texts_have_one_answer()
+    ensures trees { (text : List ℕ) (f g : FileTree) → ReadsAs text f → ReadsAs text g → f ≡ g }
+    ensures faults { (text : List ℕ) (e d : ParseFault) → FailsAs text e → FailsAs text d → e ≡ d }
+    ensures either { (text : List ℕ) (f : FileTree) (e : ParseFault) → ReadsAs text f → ¬ FailsAs text e }
 {}
 
 /// The grammar gives these examples the symbols, the tree and the nesting that they must have.

@@ -22,5 +22,7 @@ mod stop;
 #[cfg(test)]
 mod tests;
 
-pub use laws::{examples_are_read_as_they_should, symbols_begin_what_goes_on};
+pub use laws::{
+    examples_are_read_as_they_should, symbols_begin_what_goes_on, texts_have_one_answer,
+};
 pub use parser::{ParseFault, parse};

@@ -1,5 +1,6 @@
 //! From a text to its tree.
 ghost use Rattle.std.specs.Prelude.{◌≡◌, ◌≤◌, length, IfOk, IsSome};
+ghost use Rattle.priz_base.specs.Reading.{max_input};
 ghost use Rattle.utopist_syntax.specs.Asks.{AllAsk};
 ghost use Rattle.utopist_syntax.specs.FileTree.{file_tree};
 ghost use Rattle.utopist_parser.specs.Answers.{PlaceOf};
@@ -27,7 +28,7 @@ pub enum ParseFault {
 
 /// The tree of a file, in time linear in the text. What recurses does so at most 64 deep.
 pub fn parse(alloc: Global, text: &str) -> Result<File, ParseFault>
-    requires { length text.now ≤ 1048576 }
+    requires { length text.now ≤ max_input }
     ensures tree { ParseOf text.entry.now result }
     ensures wants { IfOk result (λ f. AllAsk (file_tree f)) }
 {

@@ -22,6 +22,14 @@ impl From<AllocError> for Stop {
     }
 }
 
+impl From<priz_base::NoMem> for Stop {
+    ghost from_gives = { λ _ e. e ≡ NoMem };
+
+    fn from(_error: priz_base::NoMem) -> Stop {
+        Stop::NoMem
+    }
+}
+
 impl<T: Drop> From<AllocFailed<T>> for Stop {
     ghost from_gives = { λ _ e. e ≡ NoMem };
 

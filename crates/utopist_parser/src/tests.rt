@@ -72,6 +72,28 @@ const FORMS: &str = "concept m is a, b : (
 compute m : ( given x = -1/2, y, z = 3; find x.y, y );
 ";
 
+// Where parentheses stand and where they don't.
+const PARENTHESES: &str = "concept m : (
+  rel r : -> o { a - (b + c) };
+  rel r : -> o { a - (b - c) };
+  rel r : -> o { a - b * c };
+  rel r : -> o { a / (b * c) };
+  rel r : -> o { a * (b + c) };
+  rel r : -> o { a - b + c };
+  rel r : -> o { a / b * c };
+  rel r : -> o { a * b - c };
+  rel r : -> o { (a + b) * c };
+  rel r : -> o { --x };
+  rel r : -> o { -(a * b) };
+  rel r : -> o { -a.b };
+  rel r : -> o { -(if a = e then f else g) };
+  rel r : -> o { if (if a < e then f else g) < e then f else if a <= e then f else g };
+  rel r : -> o { (if a < e then f else g) * c };
+  rel r : -> o { $12(a, sum(i, 1, n, if a < e then f else g)) };
+  rel r : -> o { prod(i, 1, n, iter(i, 1, n, b - c)) };
+);
+";
+
 #[test]
 fn what_is_printed_is_read_back(rt: HostRuntime) -> Result<(), Fail> {
     let small =
@@ -79,6 +101,11 @@ fn what_is_printed_is_read_back(rt: HostRuntime) -> Result<(), Fail> {
     for (text, printed) in [
         (DIVIDER, DIVIDER),
         (FORMS, FORMS),
+        (PARENTHESES, PARENTHESES),
+        (
+            "compute c:(given low.r=-10/2,d;find o,i);",
+            "compute c : ( given low.r = -5, d; find o, i );\n",
+        ),
         (
             "concept a:(var x,y:numeric;eq x=(y+1)*-2;);compute a:(given x=4/6;find y);",
             small,

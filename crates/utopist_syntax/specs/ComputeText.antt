@@ -1,15 +1,11 @@
 -- The text of a compute statement.
-use Rattle.std.specs.Prelude.{ℕ, List, [], ◌∷◌, ◌++◌, codes, decimal, Option, Some, None, ◌==◌, if◌then◌else◌}
+use Rattle.std.specs.Prelude.{ℕ, List, [], ◌∷◌, ◌++◌, codes, Option, Some, None}
 use Rattle.std.specs.List.{join_by}
-use Rattle.std.specs.Fmt.{signed_decimal}
 use Rattle.priz_frac.specs.Ratio.{Ratio}
 use Rattle.utopist_syntax.specs.declared.compute.Compute.{Compute}
 use Rattle.utopist_syntax.specs.declared.compute.GivenPath.{GivenPath}
 use Rattle.utopist_syntax.specs.PathText.{path_text, paths_text}
-
--- a whole number without its denominator
-abbrev pub fraction_text : Ratio → List ℕ
-fraction_text x = signed_decimal x.num ++ (if x.den == 1 then [] else codes "/" ++ decimal x.den)
+use Rattle.utopist_syntax.specs.FractionText.{fraction_text}
 
 -- nothing, or "=" and the fraction
 abbrev pub value_text : Option Ratio → List ℕ

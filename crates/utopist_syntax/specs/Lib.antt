@@ -8,5 +8,6 @@ pub mod Round
 pub mod ExprText
 pub mod ItemText
 pub mod ConceptText
+pub mod FractionText
 pub mod ComputeText
 pub mod Canonical

@@ -5,6 +5,7 @@ mod compute;
 mod concept;
 mod expr;
 mod file;
+mod fraction;
 mod item;
 mod name;
 mod path;
@@ -20,13 +21,12 @@ mod print_parts;
 mod print_path;
 #[cfg(test)]
 mod tests;
-#[cfg(test)]
-mod tests_divider;
 
 pub use compute::{Compute, GivenPath};
 pub use concept::Concept;
 pub use expr::Expr;
 pub use file::File;
+pub use fraction::print_fraction;
 pub use item::{Bind, Item, Part, VarKind};
 pub use name::Name;
 pub use path::Path;

@@ -1,7 +1,7 @@
 ghost use Rattle.std.specs.Prelude.{◌≡◌, IfOk, string_bytes};
 
-use priz_base::Place;
-use std::alloc::{AllocError, Global};
+use priz_base::{NoMem, Place};
+use std::alloc::Global;
 use std::marker::Model;
 
 /// A name, and where it begins in the text.
@@ -23,7 +23,7 @@ impl Model for Name {
 }
 
 impl Name {
-    pub fn new(alloc: Global, text: &str, place: Place) -> Result<Name, AllocError>
+    pub fn new(alloc: Global, text: &str, place: Place) -> Result<Name, NoMem>
         ensures { IfOk result (λ n. n ≡ record { text = text.now; place = place }) }
     {
         let text = String::from_str(alloc, text)?;

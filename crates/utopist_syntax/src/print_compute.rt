@@ -1,10 +1,10 @@
 ghost use Rattle.std.specs.Prelude.{◌≡◌, ◌++◌, codes, OnOk};
 ghost use Rattle.std.specs.List.{join_by};
-ghost use Rattle.utopist_syntax.specs.ComputeText.{fraction_text, value_text, given_text, givens_text, compute_text};
+ghost use Rattle.utopist_syntax.specs.ComputeText.{value_text, given_text, givens_text, compute_text};
 
-use crate::pieces::{print_if, print_number};
+use crate::pieces::print_if;
 use crate::print_path::{print_path, print_paths};
-use crate::{Compute, GivenPath};
+use crate::{Compute, GivenPath, print_fraction};
 use priz_base::NoMem;
 use priz_frac::Frac;
 
@@ -63,15 +63,4 @@ fn print_value(value: Option<Frac>, out: &mut Vec<u8>) -> Result<(), NoMem>
             print_fraction(fraction, out)
         }
     }
-}
-
-fn print_fraction(fraction: Frac, out: &mut Vec<u8>) -> Result<(), NoMem>
-    ensures { OnOk result (out.new.items ≡ out.old.items ++ fraction_text fraction) }
-{
-    print_number(fraction.num(), out)?;
-    if fraction.den() == 1 {
-        return Ok(());
-    }
-    out.push(b'/')?;
-    print_number(fraction.den(), out)
 }

@@ -1,6 +1,6 @@
 use Rattle.std.proofs.Common.{◌≡◌, drop}
 use Rattle.proof_term.specs.Plain.{steps_of}
-use Rattle.answer_core.specs.Values.{first_without_body}
+use Rattle.proof_term.specs.Bodies.{first_without_body}
 use Rattle.answer_core.proofs.values.first_without_body.Given as goal
 
 -- the first stands among the steps that are left

@@ -1,8 +1,7 @@
 use Rattle.std.proofs.Common.{◌<◌, length, arith, sym, ◌∙◌, ap, List, ◌∷◌, [], ◌++◌}
 use Rattle.std.proofs.lemmas.Result.{err_from_is_err_and}
 use Rattle.std.proofs.lemmas.List.Elements.{All-push}
-use Rattle.statement_set.specs.Problem.{Task, IsWhole}
-use Rattle.answer_core.specs.Answers.{IsPlain}
+use Rattle.statement_set.specs.Problem.{Task, IsPlain}
 use Rattle.utopist_syntax.specs.FileTree.{file_tree}
 use Rattle.priz_cli.proofs.Unfolds.{few_computes, unfolded_more, unfolding_fails}
 use Rattle.priz_cli.proofs.problems.unfold_all.Goals as goal
@@ -26,6 +25,5 @@ loop-which-preserved c =
     let pushed = c.in_ok-add.ensures in record {
       rules = more.0;
       problems = pushed ∙ ap (λ (ps : List Task). ps ++ p ∷ []) old.problems ∙ sym more.1;
-      whole = rw pushed (All-push IsWhole c.loop-which.problems p old.whole c.in_ok-unfold.ensures.whole);
       plain = rw pushed (All-push IsPlain c.loop-which.problems p old.plain c.in_ok-unfold.ensures.plain);
     }

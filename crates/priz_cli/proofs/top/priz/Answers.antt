@@ -1,7 +1,17 @@
 use Rattle.std.proofs.Common.{Some}
 use Rattle.priz_base.specs.Faults.{Rose}
-use Rattle.priz_cli.proofs.Ends.{answered}
+use Rattle.priz_cli.proofs.Ends.{answered, refused_so, too_long}
 use Rattle.priz_cli.proofs.top.priz.Goals as goal
+
+pub returns-in-Ok-Some-clause-refused : goal.returns-in-Ok-Some-clause-refused
+returns-in-Ok-Some-clause-refused g c = λ words read.
+    refused_so (Some c.in-Ok-Some.effort) c.solve.result (g.S.Source.left c.args.source.now) (g.S.Source.left c.solve.new.source) (g.K.Sink.written c.args.sink.now) (g.K.Sink.written c.solve.new.sink)
+    c.solve.ensures.outcome c.solve.ensures.mode read
+
+pub returns-in-Ok-Some-clause-long : goal.returns-in-Ok-Some-clause-long
+returns-in-Ok-Some-clause-long g c = λ words read.
+    too_long (Some c.in-Ok-Some.effort) c.solve.result (g.S.Source.left c.args.source.now) (g.S.Source.left c.solve.new.source) (g.K.Sink.written c.args.sink.now) (g.K.Sink.written c.solve.new.sink)
+    c.solve.ensures.outcome c.solve.ensures.mode read
 
 pub returns-in-Ok-Some-clause-complete : goal.returns-in-Ok-Some-clause-complete
 returns-in-Ok-Some-clause-complete g c = λ words no_read no_write.

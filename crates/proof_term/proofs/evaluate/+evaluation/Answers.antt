@@ -13,17 +13,17 @@ use Rattle.proof_term.proofs.evaluate.+evaluation.Goals as goal
 pub evaluate-returns-in_ok-y-in-Sum : goal.evaluate-returns-in_ok-y-in-Sum
 evaluate-returns-in_ok-y-in-Sum t c = λ owner answer.
     agrees_along owner c.gather.result _ _
-    (sum_is owner answer c.args.inputs.now (local_values c.args.locals.now) c.args.body.now c.in-Sum.first c.in-Sum.second c.in-Sum.each c.in_ok-x-in-Sum.x c.in_ok-y-in-Sum.y c.whole.result c.args.turns c.in_ok-x-in-Sum.turns c.in_ok-y-in-Sum.turns
+    (sum_is owner answer c.args.inputs.now (local_values c.args.locals.now) c.args.body.now c.in-Sum.first c.in-Sum.second c.in-Sum.each c.in_ok-x-in-Sum.x c.in_ok-y-in-Sum.y c.from_whole-zero.result c.args.turns c.in_ok-x-in-Sum.turns c.in_ok-y-in-Sum.turns
     (rw (← c.get-in-Sum.ensures) (c.in_ok-x-in-Sum.ensures owner answer))
-    (rw (← c.get-in-Sum-2.ensures) (c.in_ok-y-in-Sum.ensures owner answer)) c.in-Sum.is c.whole.ensures)
+    (rw (← c.get-in-Sum-2.ensures) (c.in_ok-y-in-Sum.ensures owner answer)) c.in-Sum.is c.from_whole-zero.ensures)
     (rw (← c.get-in-Sum-3.ensures) (c.gather.ensures owner answer))
 
 pub evaluate-returns-in_ok-y-in-Prod : goal.evaluate-returns-in_ok-y-in-Prod
 evaluate-returns-in_ok-y-in-Prod t c = λ owner answer.
     agrees_along owner c.gather-in-Prod.result _ _
-    (product_is owner answer c.args.inputs.now (local_values c.args.locals.now) c.args.body.now c.in-Prod.first c.in-Prod.second c.in-Prod.each c.in_ok-x-in-Prod.x c.in_ok-y-in-Prod.y c.whole-in-Prod.result c.args.turns c.in_ok-x-in-Prod.turns c.in_ok-y-in-Prod.turns
+    (product_is owner answer c.args.inputs.now (local_values c.args.locals.now) c.args.body.now c.in-Prod.first c.in-Prod.second c.in-Prod.each c.in_ok-x-in-Prod.x c.in_ok-y-in-Prod.y c.from_whole-one.result c.args.turns c.in_ok-x-in-Prod.turns c.in_ok-y-in-Prod.turns
     (rw (← c.get-in-Prod.ensures) (c.in_ok-x-in-Prod.ensures owner answer))
-    (rw (← c.get-in-Prod-2.ensures) (c.in_ok-y-in-Prod.ensures owner answer)) c.in-Prod.is c.whole-in-Prod.ensures)
+    (rw (← c.get-in-Prod-2.ensures) (c.in_ok-y-in-Prod.ensures owner answer)) c.in-Prod.is c.from_whole-one.ensures)
     (rw (← c.get-in-Prod-3.ensures) (c.gather-in-Prod.ensures owner answer))
 
 pub evaluate-returns-in_ok-y-in-Iter : goal.evaluate-returns-in_ok-y-in-Iter

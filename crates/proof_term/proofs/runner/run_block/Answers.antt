@@ -1,7 +1,7 @@
 use Rattle.std.proofs.Common.{length, pos, ap, ◌∙◌}
 use Rattle.std.specs.Prelude.{replicate}
 use Rattle.std.proofs.lemmas.List.{length-replicate}
-use Rattle.body_lang.specs.Values.{whole}
+use Rattle.priz_frac.specs.Whole.{whole}
 use Rattle.statement_set.specs.Problem.{var_count, given_vars}
 use Rattle.proof_term.proofs.RunningSteps.{values_length}
 use Rattle.proof_term.proofs.runner.run_block.Goals as goal

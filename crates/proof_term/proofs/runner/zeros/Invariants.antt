@@ -1,6 +1,6 @@
 use Rattle.std.proofs.Common.{◌≡◌, pos}
 use Rattle.std.specs.Prelude.{replicate}
-use Rattle.body_lang.specs.Values.{whole}
+use Rattle.priz_frac.specs.Whole.{whole}
 use Rattle.proof_term.proofs.runner.zeros.Given as goal
 
 abbrev pub invariant-loop-i : goal.invariant-loop-i
