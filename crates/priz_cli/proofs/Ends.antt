@@ -9,9 +9,9 @@ use Rattle.priz_cli.specs.declared.outcome.Outcome.{Outcome}
 use Rattle.priz_cli.specs.declared.outcome.Outcome.TheVariants as outcome
 use Rattle.priz_cli.specs.Accepted.{Accepts}
 use Rattle.priz_cli.specs.declared.refusal.Refusal.{Refusal}
-use Rattle.priz_cli.specs.Refused.{IsRefused}
+use Rattle.priz_cli.specs.Refused.{Refuses}
 use Rattle.priz_cli.specs.Outcomes.{Leaves, EndsAs, IsAnswered}
-use Rattle.priz_cli.proofs.OneCause.{one_cause}
+use Rattle.priz_cli.proofs.OneCause.{one_cause, refused_not_accepted}
 
 -- of an input of few bytes none is taken beyond the limit
 few_taken : (bytes : List ℕ) (left' : Option (List ℕ)) → TakesTooMany (Some bytes) left' → length bytes ≤ max_input → ⊥
@@ -36,15 +36,15 @@ answered asked outcome.NoMem (Some bytes) left' written written' read write h mo
 -- refused bytes are refused for their cause, or memory is wanted, where they were read
 pub refused_so : (asked : Option Effort) (o : Outcome) (left left' written written' : Option (List ℕ))
     → Leaves asked o left left' written written' → o ≢ outcome.Usage → o ≢ outcome.ReadFault
-    → IfSome left (λ bytes. (r : Refusal) → IsRefused bytes r → EndsAs (outcome.Refused r) o)
+    → IfSome left (λ bytes. (r : Refusal) → length bytes ≤ max_input → Refuses bytes r → EndsAs (outcome.Refused r) o)
 refused_so asked o None left' written written' h mode read = tt
-refused_so asked (outcome.Solved answers) (Some bytes) left' written written' h mode read = λ r is. absurd (is.none h.2.0 h.2.1)
-refused_so asked outcome.Usage (Some bytes) left' written written' h mode read = λ r is. absurd (mode refl)
-refused_so asked (outcome.Refused s) (Some bytes) left' written written' h mode read = λ r is. inl (ap (λ (x : Refusal). outcome.Refused x) (one_cause bytes s r h.0.cause is.cause))
-refused_so asked outcome.InputTooLong (Some bytes) left' written written' h mode read = λ r is. absurd (few_taken bytes left' h.0 is.few)
-refused_so asked outcome.ReadFault (Some bytes) left' written written' h mode read = λ r is. absurd (read refl)
-refused_so asked outcome.WriteFault (Some bytes) left' written written' h mode read = λ r is. absurd (is.none h.2.0 h.2.1)
-refused_so asked outcome.NoMem (Some bytes) left' written written' h mode read = λ r is. inr refl
+refused_so asked (outcome.Solved answers) (Some bytes) left' written written' h mode read = λ r few is. absurd (refused_not_accepted bytes r h.2.0 is h.2.1)
+refused_so asked outcome.Usage (Some bytes) left' written written' h mode read = λ r few is. absurd (mode refl)
+refused_so asked (outcome.Refused s) (Some bytes) left' written written' h mode read = λ r few is. inl (ap (λ (x : Refusal). outcome.Refused x) (one_cause bytes s r h.0.cause is))
+refused_so asked outcome.InputTooLong (Some bytes) left' written written' h mode read = λ r few is. absurd (few_taken bytes left' h.0 few)
+refused_so asked outcome.ReadFault (Some bytes) left' written written' h mode read = λ r few is. absurd (read refl)
+refused_so asked outcome.WriteFault (Some bytes) left' written written' h mode read = λ r few is. absurd (refused_not_accepted bytes r h.2.0 is h.2.1)
+refused_so asked outcome.NoMem (Some bytes) left' written written' h mode read = λ r few is. inr refl
 
 -- too many bytes are too many, or memory is wanted, where they were read
 pub too_long : (asked : Option Effort) (o : Outcome) (left left' written written' : Option (List ℕ))

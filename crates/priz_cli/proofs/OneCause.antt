@@ -14,16 +14,16 @@ use Rattle.utopist_parser.specs.Forms.{FailsAs}
 use Rattle.utopist_parser.proofs.OneAnswer.{one_tree, one_failure, not_tree_and_fault}
 use Rattle.concept_unfold.specs.declared.fault.ModelFault.{ModelFault}
 use Rattle.concept_unfold.specs.Built.{IsBuilt}
-use Rattle.concept_unfold.specs.Rows.{FirstFailing}
+use Rattle.concept_unfold.specs.Rows.{AllHold, FirstFailing}
 use Rattle.concept_unfold.specs.UnfoldingRules.{rules_of}
-use Rattle.concept_unfold.proofs.OneFault.{one_fault}
+use Rattle.concept_unfold.proofs.OneFault.{one_fault, not_all}
 use Rattle.priz_cli.specs.declared.unbuilt.Context.{Context}
 use Rattle.priz_cli.specs.declared.refusal.Refusal.{Refusal}
 use Rattle.priz_cli.specs.declared.refusal.Refusal.TheVariants as refusal
 use Rattle.priz_cli.specs.declared.fault.Fault.{Fault}
 use Rattle.priz_cli.specs.declared.fault.Fault.TheVariants as fault
 use Rattle.priz_cli.specs.Faults.{parse_fault}
-use Rattle.priz_cli.specs.Accepted.{Spells}
+use Rattle.priz_cli.specs.Accepted.{Spells, Accepts}
 use Rattle.priz_cli.specs.Refused.{IsUnbuilt, Refuses}
 use Rattle.priz_cli.specs.Unbuilt.{opens, behind, at_start, behind_all, NoneOpens, kinds_of, FirstUnbuilt}
 use Rattle.priz_cli.proofs.Steps.{found_is_unbuilt}
@@ -112,3 +112,13 @@ same_cause bytes r s (inr (inr (inr a))) (inr (inr (inr b))) = sym a.1 ∙ ap (�
 -- bytes are refused for one cause
 pub one_cause : (bytes : List ℕ) (r s : Refusal) → Refuses bytes r → Refuses bytes s → r ≡ s
 one_cause bytes r s h k = same_cause bytes r s (cause_of bytes r h) (cause_of bytes s k)
+
+-- and are accepted as no file
+pub refused_not_accepted : (bytes : List ℕ) (r : Refusal) (f : FileTree) → Refuses bytes r → Accepts bytes f → ⊥
+refused_not_accepted bytes r f h accepted = by (cause_of bytes r h) where
+  by : Cause bytes r → ⊥
+  by (inl a) = not_text bytes a.0 a.2 accepted.spelled.utf8
+  by (inr (inl a)) = not_tree_and_fault bytes f a.0 accepted.spelled.tree a.3
+  by (inr (inr (inl a))) = unbuilt_not_built bytes a.0 f a.2 accepted.spelled accepted.built
+  by (inr (inr (inr a))) =
+      not_all (rules_of a.2.0) a.0 a.2.3 (subst (λ (x : FileTree). AllHold (rules_of x)) (one_tree bytes f a.2.0 accepted.spelled.tree a.2.1.tree) accepted.rules)

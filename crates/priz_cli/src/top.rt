@@ -5,7 +5,7 @@ ghost use Rattle.utopist_syntax.specs.FileTree.{FileTree};
 ghost use Rattle.priz_cli.specs.Words.{effort_of};
 ghost use Rattle.priz_cli.specs.declared.refusal.Refusal.{Refusal};
 ghost use Rattle.priz_cli.specs.Accepted.{Accepts};
-ghost use Rattle.priz_cli.specs.Refused.{IsRefused};
+ghost use Rattle.priz_cli.specs.Refused.{Refuses};
 ghost use Rattle.priz_cli.specs.Outcomes.{Leaves, RunLeaves, EndsAs, IsUnwritten, IsAnswered};
 ghost use Rattle.priz_cli.specs.Steps.{AcceptedOf};
 
@@ -33,7 +33,7 @@ pub fn run<S: Source, K: Sink>(
     ensures write { result ≡ Outcome.WriteFault → Rose (K.faults sink.old) (K.faults sink.new) }
     ensures later_source { S.faults source.old ≤ S.faults source.new }
     ensures later_sink { K.faults sink.old ≤ K.faults sink.new }
-    ensures refused { IsSome (effort_of (map string_bytes words.now)) → result ≢ Outcome.ReadFault → IfSome (S.left source.old) (λ bytes. (r : Refusal) → IsRefused bytes r → EndsAs (Outcome.Refused r) result) }
+    ensures refused { IsSome (effort_of (map string_bytes words.now)) → result ≢ Outcome.ReadFault → IfSome (S.left source.old) (λ bytes. (r : Refusal) → length bytes ≤ max_input → Refuses bytes r → EndsAs (Outcome.Refused r) result) }
     ensures long { IsSome (effort_of (map string_bytes words.now)) → result ≢ Outcome.ReadFault → IfSome (S.left source.old) (λ bytes. max_input < length bytes → EndsAs Outcome.InputTooLong result) }
     ensures complete { IsSome (effort_of (map string_bytes words.now)) → ¬ Rose (S.faults source.old) (S.faults source.new) → ¬ Rose (K.faults sink.old) (K.faults sink.new) → IfSome (S.left source.old) (λ bytes. (f : FileTree) → Accepts bytes f → IsAnswered result) }
 {
@@ -57,7 +57,7 @@ pub fn priz<S: Source, K: Sink>(
     ensures write { result ≡ Outcome.WriteFault → Rose (K.faults sink.old) (K.faults sink.new) }
     ensures later_source { S.faults source.old ≤ S.faults source.new }
     ensures later_sink { K.faults sink.old ≤ K.faults sink.new }
-    ensures refused { IsSome (effort_of (map string_bytes words.now)) → result ≢ Outcome.ReadFault → IfSome (S.left source.old) (λ bytes. (r : Refusal) → IsRefused bytes r → EndsAs (Outcome.Refused r) result) }
+    ensures refused { IsSome (effort_of (map string_bytes words.now)) → result ≢ Outcome.ReadFault → IfSome (S.left source.old) (λ bytes. (r : Refusal) → length bytes ≤ max_input → Refuses bytes r → EndsAs (Outcome.Refused r) result) }
     ensures long { IsSome (effort_of (map string_bytes words.now)) → result ≢ Outcome.ReadFault → IfSome (S.left source.old) (λ bytes. max_input < length bytes → EndsAs Outcome.InputTooLong result) }
     ensures complete { IsSome (effort_of (map string_bytes words.now)) → ¬ Rose (S.faults source.old) (S.faults source.new) → ¬ Rose (K.faults sink.old) (K.faults sink.new) → IfSome (S.left source.old) (λ bytes. (f : FileTree) → Accepts bytes f → IsAnswered result) }
 {
