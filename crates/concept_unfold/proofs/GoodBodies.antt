@@ -5,6 +5,7 @@ use Rattle.std.specs.Str.{bytes_eq}
 use Rattle.std.specs.List.{position_or_len}
 use Rattle.std.proofs.lemmas.List.{length-map}
 use Rattle.priz_base.proofs.More.{some_below}
+use Rattle.priz_frac.specs.Whole.{whole}
 use Rattle.body_lang.specs.declared.body.Body.{Body}
 use Rattle.body_lang.specs.declared.loop_kind.LoopKind.{LoopKind}
 use Rattle.body_lang.specs.declared.loop_kind.LoopKind.TheVariants.{Sum, Prod, Iter}
@@ -83,7 +84,7 @@ loop_passes n loops Prod a b e p q r = ap (check.checked n [] loops) (trees.prod
 loop_passes n loops Iter a b e p q r = ap (check.checked n [] loops) (trees.iterate_tree a b e) ∙ both_pass _ _ p (both_pass _ _ q r)
 
 expr_passes : (inputs rounds taken : List (List ℕ)) (t : Tree) → IsBuiltExpr t → expr_fault (record { taken = taken; inputs = inputs; rounds = rounds }) t ≡ Ok tt → passes_check (length inputs) (length rounds) (expr_body inputs rounds t)
-expr_passes inputs rounds taken (num n) built h = ap (check.checked (length inputs) [] (length rounds)) (trees.num_tree (record { num = n; den = 1 }))
+expr_passes inputs rounds taken (num n) built h = ap (check.checked (length inputs) [] (length rounds)) (trees.num_tree (whole n))
 expr_passes inputs rounds taken (path names) built h = path_passes inputs rounds taken names (test_passes _ (broken_at (first_of names) rule.UnknownPath) h)
 expr_passes inputs rounds taken (neg a) built h =
     ap (check.checked (length inputs) [] (length rounds)) (trees.neg_tree (expr_body inputs rounds a)) ∙ expr_passes inputs rounds taken a built h

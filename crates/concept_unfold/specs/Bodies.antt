@@ -2,6 +2,7 @@
 use Rattle.std.specs.Prelude.{ℕ, List, [], ◌∷◌, length, Option, Some, None, if◌then◌else◌}
 use Rattle.std.specs.Str.{bytes_eq}
 use Rattle.std.specs.List.{position_or_len}
+use Rattle.priz_frac.specs.Whole.{whole}
 use Rattle.body_lang.specs.declared.body.Body.{Body}
 use Rattle.body_lang.specs.declared.body.Body.TheVariants as leaf
 use Rattle.body_lang.specs.declared.body.Body.TheViews as node
@@ -32,7 +33,7 @@ loop_of Iter a b e = node.Iter a b e
 
 -- an expression inside the rounds of these loops, of the forms that are built
 abbrev pub expr_body : List (List ℕ) → List (List ℕ) → Tree → Body
-expr_body inputs rounds (num n) = leaf.Num (record { num = n; den = 1 })
+expr_body inputs rounds (num n) = leaf.Num (whole n)
 expr_body inputs rounds (path names) = named inputs rounds (first_of names).text
 expr_body inputs rounds (neg a) = node.Neg (expr_body inputs rounds a)
 expr_body inputs rounds (op o a b) = node.Op o (expr_body inputs rounds a) (expr_body inputs rounds b)
