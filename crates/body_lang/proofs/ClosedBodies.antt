@@ -3,7 +3,7 @@ use Rattle.std.proofs.Common.{◌≡◌, ◌<◌, ◌==◌, ℕ, suc, List, true
 use Rattle.std.specs.Prelude.{nat_lt, slice_get}
 use Rattle.std.proofs.lemmas.Bool.Decides.{nat_tests}
 use Rattle.body_lang.specs.declared.body_fault.BodyFault.TheVariants.{BadInput, BadLocal, BadArity}
-use Rattle.body_lang.specs.BodyTree.{Tree, Trees, num, input, local, neg, op, choice, total, product, iterate, call, none, more, count_of}
+use Rattle.body_lang.specs.BodyTree.{BodyTree, BodyTrees, num, input, local, neg, op, choice, total, product, iterate, call, none, more, count_of}
 use Rattle.body_lang.specs.Verdicts.{fault_unless}
 use Rattle.body_lang.specs.Checked.{checked, all_checked, call_checked}
 use Rattle.body_lang.specs.Reads.{IsClosed, AreClosed}
@@ -37,7 +37,7 @@ call_passes o n e = ap (λ p. call_checked p n) e ∙ ap (λ b. fault_unless b B
 module _ (n : ℕ) (arities : List ℕ) where
   mutual
     -- a body that passes reads what is there
-    pub closed : (loops : ℕ) (t : Tree) → checked n arities loops t ≡ Ok tt → IsClosed n arities loops t
+    pub closed : (loops : ℕ) (t : BodyTree) → checked n arities loops t ≡ Ok tt → IsClosed n arities loops t
     closed loops (num v) h = tt
     closed loops (input i) h = is_below i n (test_passes (nat_lt i n) BadInput h)
     closed loops (local j) h = is_below j loops (test_passes (nat_lt j loops) BadLocal h)
@@ -59,13 +59,13 @@ module _ (n : ℕ) (arities : List ℕ) where
     closed loops (call k args) h = (is_called (slice_get arities k) (count_of args) (first_passes _ _ h), all_closed loops args (second_passes _ _ h))
 
     -- so do arguments that pass
-    all_closed : (loops : ℕ) (args : Trees) → all_checked n arities loops args ≡ Ok tt → AreClosed n arities loops args
+    all_closed : (loops : ℕ) (args : BodyTrees) → all_checked n arities loops args ≡ Ok tt → AreClosed n arities loops args
     all_closed loops none h = tt
     all_closed loops (more a rest) h = (closed loops a (first_passes _ _ h), all_closed loops rest (second_passes _ _ h))
 
   mutual
     -- a body that reads what is there passes
-    pub passes : (loops : ℕ) (t : Tree) → IsClosed n arities loops t → checked n arities loops t ≡ Ok tt
+    pub passes : (loops : ℕ) (t : BodyTree) → IsClosed n arities loops t → checked n arities loops t ≡ Ok tt
     passes loops (num v) h = refl
     passes loops (input i) h = ap (λ b. fault_unless b BadInput) (below_passes i n h)
     passes loops (local j) h = ap (λ b. fault_unless b BadLocal) (below_passes j loops h)
@@ -79,6 +79,6 @@ module _ (n : ℕ) (arities : List ℕ) where
     passes loops (call k args) h = both_pass _ _ (call_passes (slice_get arities k) (count_of args) h.0) (all_pass loops args h.1)
 
     -- so do arguments that read what is there
-    all_pass : (loops : ℕ) (args : Trees) → AreClosed n arities loops args → all_checked n arities loops args ≡ Ok tt
+    all_pass : (loops : ℕ) (args : BodyTrees) → AreClosed n arities loops args → all_checked n arities loops args ≡ Ok tt
     all_pass loops none h = refl
     all_pass loops (more a rest) h = both_pass _ _ (passes loops a h.0) (all_pass loops rest h.1)

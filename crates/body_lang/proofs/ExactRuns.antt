@@ -11,9 +11,9 @@ use Rattle.priz_frac.specs.declared.fault.FracFault.{FracFault}
 use Rattle.priz_frac.specs.declared.fault.FracFault.TheVariants as frac
 use Rattle.body_lang.specs.declared.op.Op.{Op}
 use Rattle.body_lang.specs.declared.op.Op.TheVariants.{Add, Sub, Mul, Div}
-use Rattle.body_lang.specs.BodyTree.{Tree, Trees, num, input, local, neg, op, choice, total, product, iterate, call, none, more}
-use Rattle.body_lang.specs.Follows.{AnswersFollow, AnswersFollowOnRows, Follows, FollowsOnRows}
-use Rattle.body_lang.specs.Meaning.{Answer, mean, mean_all}
+use Rattle.body_lang.specs.BodyTree.{BodyTree, BodyTrees, num, input, local, neg, op, choice, total, product, iterate, call, none, more}
+use Rattle.body_lang.specs.Follows.{CallsFollow, CallsFollowOnRows, RunFollows, RunFollowsOnRows}
+use Rattle.body_lang.specs.Meaning.{Calls, mean, mean_all}
 use Rattle.body_lang.specs.Mode.{narrowly, exactly}
 use Rattle.body_lang.specs.Operation.{operate, as_run, holds, value_in}
 use Rattle.body_lang.specs.Rounds.{one_round, rounds, round_count, rounds_between, replacements, replacements_for}
@@ -110,9 +110,9 @@ module _ (Lacks : Type 0) where
     times_follow x (Some (pos n)) t = replacements_follow n x t
     times_follow x (Some (negsuc n)) t = stopped _ _
 
-  module _ (owner : ℕ) (f g : Answer) (calls : (k : ℕ) (vs : List Ratio) (t : ℕ) → FollowsUnless (f k vs t) (g k vs)) where
+  module _ (owner : ℕ) (f g : Calls) (calls : (k : ℕ) (vs : List Ratio) (t : ℕ) → FollowsUnless (f k vs t) (g k vs)) where
     mutual
-      pub mean_follows : (b : Tree) (ins locs : List Ratio) (t : ℕ) → FollowsUnless (mean narrowly owner f b ins locs t) (mean exactly owner g b ins locs)
+      pub mean_follows : (b : BodyTree) (ins locs : List Ratio) (t : ℕ) → FollowsUnless (mean narrowly owner f b ins locs t) (mean exactly owner g b ins locs)
       mean_follows (num v) ins locs t = here v t
       mean_follows (input i) ins locs t = here (value_at ins i) t
       mean_follows (local j) ins locs t = here (value_at locs j) t
@@ -131,7 +131,7 @@ module _ (Lacks : Type 0) where
       mean_follows (call k args) ins locs t =
           then_follows _ _ _ _ (all_follow args ins locs t) (λ vs t1. calls k vs t1)
 
-      all_follow : (args : Trees) (ins locs : List Ratio) (t : ℕ) → FollowsUnless (mean_all narrowly owner f args ins locs t) (mean_all exactly owner g args ins locs)
+      all_follow : (args : BodyTrees) (ins locs : List Ratio) (t : ℕ) → FollowsUnless (mean_all narrowly owner f args ins locs t) (mean_all exactly owner g args ins locs)
       all_follow none ins locs t = here [] t
       all_follow (more a rest) ins locs t =
           then_follows _ _ _ _ (mean_follows a ins locs t) (λ v t1. then_follows _ _ _ _ (all_follow rest ins locs t1) (λ vs t2. here (v ∷ vs) t2))
@@ -149,10 +149,10 @@ from_either : {A : Type 0} (r : Result (A × ℕ) Stop) (v : A) (u : ℕ) → (r
 from_either r v u (inl e) = inl (tt, e)
 from_either r v u (inr e) = inr e
 
-pub exact_follows : (owner : ℕ) (f g : Answer) → AnswersFollow f g → (b : Tree) (ins locs : List Ratio) (t : ℕ) → Follows (mean narrowly owner f b ins locs t) (mean exactly owner g b ins locs)
+pub exact_follows : (owner : ℕ) (f g : Calls) → CallsFollow f g → (b : BodyTree) (ins locs : List Ratio) (t : ℕ) → RunFollows (mean narrowly owner f b ins locs t) (mean exactly owner g b ins locs)
 exact_follows owner f g h b ins locs t v t1 u e =
     only_value _ v u (mean_follows ⊥ owner f g (λ k vs t2 x t3 u1 e1. inr (h k vs t2 x t3 u1 e1)) b ins locs t v t1 u e)
 
-pub exact_follows_on_rows : (owner : ℕ) (f g : Answer) → AnswersFollowOnRows f g → (b : Tree) (ins locs : List Ratio) (t : ℕ) → FollowsOnRows (mean narrowly owner f b ins locs t) (mean exactly owner g b ins locs)
+pub exact_follows_on_rows : (owner : ℕ) (f g : Calls) → CallsFollowOnRows f g → (b : BodyTree) (ins locs : List Ratio) (t : ℕ) → RunFollowsOnRows (mean narrowly owner f b ins locs t) (mean exactly owner g b ins locs)
 exact_follows_on_rows owner f g h b ins locs t v t1 u e =
     either_end _ v u (mean_follows (Unit {0}) owner f g (λ k vs t2 x t3 u1 e1. from_either _ x u1 (h k vs t2 x t3 u1 e1)) b ins locs t v t1 u e)

@@ -9,9 +9,9 @@ use Rattle.priz_frac.specs.Whole.{whole_of, whole}
 use Rattle.priz_frac.specs.declared.fault.FracFault.{FracFault}
 use Rattle.body_lang.specs.declared.op.Op.{Op}
 use Rattle.body_lang.specs.declared.op.Op.TheVariants.{Add, Mul}
-use Rattle.body_lang.specs.BodyTree.{Tree, Trees, num, input, local, neg, op, choice, total, product, iterate, call, none, more}
+use Rattle.body_lang.specs.BodyTree.{BodyTree, BodyTrees, num, input, local, neg, op, choice, total, product, iterate, call, none, more}
 use Rattle.body_lang.specs.Keeping.{NumbersHave, AllNumbersHave, EndsIn, AnswersKeep, MeaningKeeps}
-use Rattle.body_lang.specs.Meaning.{Answer, mean, mean_all}
+use Rattle.body_lang.specs.Meaning.{Calls, mean, mean_all}
 use Rattle.body_lang.specs.Mode.{Mode, narrowly, exactly}
 use Rattle.body_lang.specs.Operation.{operate, as_run, holds}
 use Rattle.body_lang.specs.Rounds.{one_round, rounds, round_count, rounds_between, replacements, replacements_for}
@@ -100,9 +100,9 @@ module _ (P : Ratio → Type 0) (mode : Mode) (kept : IsKept P mode) where
     times_end x (Some (pos n)) t p = replacements_end n x t p
     times_end x (Some (negsuc n)) t p = tt
 
-  module _ (owner : ℕ) (answer : Answer) (calls : AnswersKeep P answer) where
+  module _ (owner : ℕ) (answer : Calls) (calls : AnswersKeep P answer) where
     mutual
-      mean_ends : (b : Tree) → NumbersHave P b → (ins locs : List Ratio) → All P ins → All P locs → (t : ℕ) → EndsIn P (mean mode owner answer b ins locs t)
+      mean_ends : (b : BodyTree) → NumbersHave P b → (ins locs : List Ratio) → All P ins → All P locs → (t : ℕ) → EndsIn P (mean mode owner answer b ins locs t)
       mean_ends (num v) n ins locs h k t = n
       mean_ends (input i) n ins locs h k t = value_keeps ins i h
       mean_ends (local j) n ins locs h k t = value_keeps locs j k
@@ -124,7 +124,7 @@ module _ (P : Ratio → Type 0) (mode : Mode) (kept : IsKept P mode) where
       mean_ends (call i args) n ins locs h k t =
           then_ends (All P) (mean_all mode owner answer args ins locs t) _ (all_end args n ins locs h k t) (λ vs u p. calls i vs u p)
 
-      all_end : (args : Trees) → AllNumbersHave P args → (ins locs : List Ratio) → All P ins → All P locs → (t : ℕ) → IfOk (mean_all mode owner answer args ins locs t) (λ end. All P end.0)
+      all_end : (args : BodyTrees) → AllNumbersHave P args → (ins locs : List Ratio) → All P ins → All P locs → (t : ℕ) → IfOk (mean_all mode owner answer args ins locs t) (λ end. All P end.0)
       all_end none n ins locs h k t = All-nil P
       all_end (more a rest) n ins locs h k t =
           cons_ends (mean mode owner answer a ins locs t) (λ u. mean_all mode owner answer rest ins locs u) (mean_ends a n.0 ins locs h k t) (λ u. all_end rest n.1 ins locs h k u)

@@ -6,24 +6,24 @@ use Rattle.body_lang.specs.declared.cmp.Cmp.{Cmp}
 
 mutual
   -- a body; a loop has its two bounds, and the part that it repeats
-  pub data Tree : Type 0 where
-    num : Ratio → Tree
-    input : ℕ → Tree
-    local : ℕ → Tree
-    neg : Tree → Tree
-    op : Op → Tree → Tree → Tree
-    choice : Cmp → Tree → Tree → Tree → Tree → Tree
-    total : Tree → Tree → Tree → Tree
-    product : Tree → Tree → Tree → Tree
-    iterate : Tree → Tree → Tree → Tree
-    call : ℕ → Trees → Tree
+  pub data BodyTree : Type 0 where
+    num : Ratio → BodyTree
+    input : ℕ → BodyTree
+    local : ℕ → BodyTree
+    neg : BodyTree → BodyTree
+    op : Op → BodyTree → BodyTree → BodyTree
+    choice : Cmp → BodyTree → BodyTree → BodyTree → BodyTree → BodyTree
+    total : BodyTree → BodyTree → BodyTree → BodyTree
+    product : BodyTree → BodyTree → BodyTree → BodyTree
+    iterate : BodyTree → BodyTree → BodyTree → BodyTree
+    call : ℕ → BodyTrees → BodyTree
 
   -- the arguments of a call
-  pub data Trees : Type 0 where
-    none : Trees
-    more : Tree → Trees → Trees
+  pub data BodyTrees : Type 0 where
+    none : BodyTrees
+    more : BodyTree → BodyTrees → BodyTrees
 
 -- how many arguments there are
-abbrev pub count_of : Trees → ℕ
+abbrev pub count_of : BodyTrees → ℕ
 count_of none = 0
 count_of (more a rest) = suc (count_of rest)

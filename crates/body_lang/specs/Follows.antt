@@ -1,24 +1,24 @@
 -- How an exact run follows a narrow one.
 use Rattle.std.specs.Prelude.{◌≡◌, ◌⊎◌, ℕ, List, Result, Ok, Err}
 use Rattle.priz_frac.specs.Ratio.{Ratio}
-use Rattle.body_lang.specs.Meaning.{Answer}
+use Rattle.body_lang.specs.Meaning.{Calls}
 use Rattle.body_lang.specs.Stop.{Stop, no_row}
 
 -- where the narrow run ends in a value, the exact run ends in the same value, whatever its turns
-abbrev pub Follows : {A : Type 0} → Result (A × ℕ) Stop → (ℕ → Result (A × ℕ) Stop) → Type 0
-Follows {A} narrow exact = (v : A) (t u : ℕ) → narrow ≡ Ok (v, t) → exact u ≡ Ok (v, u)
+abbrev pub RunFollows : {A : Type 0} → Result (A × ℕ) Stop → (ℕ → Result (A × ℕ) Stop) → Type 0
+RunFollows {A} narrow exact = (v : A) (t u : ℕ) → narrow ≡ Ok (v, t) → exact u ≡ Ok (v, u)
 
 -- the same, unless the exact run finds no row for a call
-abbrev pub FollowsOnRows : {A : Type 0} → Result (A × ℕ) Stop → (ℕ → Result (A × ℕ) Stop) → Type 0
-FollowsOnRows {A} narrow exact =
+abbrev pub RunFollowsOnRows : {A : Type 0} → Result (A × ℕ) Stop → (ℕ → Result (A × ℕ) Stop) → Type 0
+RunFollowsOnRows {A} narrow exact =
     (v : A) (t u : ℕ) → narrow ≡ Ok (v, t) → (exact u ≡ Err no_row) ⊎ (exact u ≡ Ok (v, u))
 
 -- the answers of exact runs follow those of narrow runs
-abbrev pub AnswersFollow : Answer → Answer → Type 0
-AnswersFollow narrow exact =
-    (k : ℕ) (arguments : List Ratio) (t : ℕ) → Follows (narrow k arguments t) (λ u. exact k arguments u)
+abbrev pub CallsFollow : Calls → Calls → Type 0
+CallsFollow narrow exact =
+    (k : ℕ) (arguments : List Ratio) (t : ℕ) → RunFollows (narrow k arguments t) (λ u. exact k arguments u)
 
 -- the same, unless there is no row for them
-abbrev pub AnswersFollowOnRows : Answer → Answer → Type 0
-AnswersFollowOnRows narrow exact =
-    (k : ℕ) (arguments : List Ratio) (t : ℕ) → FollowsOnRows (narrow k arguments t) (λ u. exact k arguments u)
+abbrev pub CallsFollowOnRows : Calls → Calls → Type 0
+CallsFollowOnRows narrow exact =
+    (k : ℕ) (arguments : List Ratio) (t : ℕ) → RunFollowsOnRows (narrow k arguments t) (λ u. exact k arguments u)

@@ -4,7 +4,7 @@ use Rattle.priz_frac.specs.Ratio.{Ratio}
 use Rattle.priz_frac.specs.Arithmetic.{negative_of}
 use Rattle.priz_frac.specs.Whole.{whole_of, whole}
 use Rattle.body_lang.specs.declared.op.Op.TheVariants.{Add, Mul}
-use Rattle.body_lang.specs.BodyTree.{Tree, Trees, num, input, local, neg, op, choice, total, product, iterate, call, none, more}
+use Rattle.body_lang.specs.BodyTree.{BodyTree, BodyTrees, num, input, local, neg, op, choice, total, product, iterate, call, none, more}
 use Rattle.body_lang.specs.Mode.{Mode}
 use Rattle.body_lang.specs.Operation.{operate, as_run, holds}
 use Rattle.body_lang.specs.Rounds.{rounds_between, replacements_for}
@@ -13,13 +13,13 @@ use Rattle.body_lang.specs.Stop.{Stop}
 use Rattle.body_lang.specs.Values.{value_at}
 
 -- what a call of the subtask of this number gives for its arguments, with so many turns left
-abbrev pub Answer : Type 0
-Answer = ℕ → List Ratio → ℕ → Ran
+abbrev pub Calls : Type 0
+Calls = ℕ → List Ratio → ℕ → Ran
 
 abbrev mutual
   -- a body of the statement `owner`: its calls are answered by `answer`, its inputs and the variables of
   -- its enclosing loops, outermost first, have these values in lowest terms, and so many turns are left
-  pub mean : Mode → ℕ → Answer → Tree → List Ratio → List Ratio → ℕ → Ran
+  pub mean : Mode → ℕ → Calls → BodyTree → List Ratio → List Ratio → ℕ → Ran
   mean mode owner answer (num v) inputs locals turns = Ok (v, turns)
   mean mode owner answer (input i) inputs locals turns = Ok (value_at inputs i, turns)
   mean mode owner answer (local j) inputs locals turns = Ok (value_at locals j, turns)
@@ -44,7 +44,7 @@ abbrev mutual
       then_with (mean_all mode owner answer args inputs locals turns) (λ values left. answer k values left)
 
   -- the arguments of a call, from left to right
-  pub mean_all : Mode → ℕ → Answer → Trees → List Ratio → List Ratio → ℕ → Result (List Ratio × ℕ) Stop
+  pub mean_all : Mode → ℕ → Calls → BodyTrees → List Ratio → List Ratio → ℕ → Result (List Ratio × ℕ) Stop
   mean_all mode owner answer none inputs locals turns = Ok ([], turns)
   mean_all mode owner answer (more a rest) inputs locals turns =
       then_with (mean mode owner answer a inputs locals turns) (λ v left.

@@ -3,42 +3,42 @@ use Rattle.std.specs.Prelude.{ℕ, zero, suc, pos, neg_ℤ, [], ◌∷◌, Ok, E
 use Rattle.priz_frac.specs.Arithmetic.{product_of}
 use Rattle.body_lang.specs.declared.op.Op.TheVariants.{Add, Div}
 use Rattle.body_lang.specs.declared.run_fault.RunFault.{RunFault}
-use Rattle.body_lang.specs.BodyTree.{Tree, num, op}
-use Rattle.body_lang.specs.Meaning.{mean, Answer}
+use Rattle.body_lang.specs.BodyTree.{BodyTree, num, op}
+use Rattle.body_lang.specs.Meaning.{mean, Calls}
 use Rattle.body_lang.specs.Mode.{Mode}
 use Rattle.body_lang.specs.Run.{Ran}
 use Rattle.body_lang.specs.Stop.{fault, no_row}
 use Rattle.priz_frac.specs.Whole.{whole}
 
 -- the number n
-abbrev pub number : ℕ → Tree
-number n = num (whole (pos n))
+abbrev pub sample_number : ℕ → BodyTree
+sample_number n = num (whole (pos n))
 
 -- the number -n
-abbrev pub minus : ℕ → Tree
+abbrev pub minus : ℕ → BodyTree
 minus n = num (whole (neg_ℤ (pos n)))
 
 -- one half
-abbrev pub half : Tree
+abbrev pub half : BodyTree
 half = num (record { num = pos 1; den = 2 })
 
 -- 1 / 0
-abbrev pub by_zero : Tree
-by_zero = op Div (number 1) (number 0)
+abbrev pub by_zero : BodyTree
+by_zero = op Div (sample_number 1) (sample_number 0)
 
 -- 2^63 - 1, plus 1
-abbrev pub too_wide : Tree
-too_wide = op Add (number 9223372036854775807) (number 1)
+abbrev pub too_wide : BodyTree
+too_wide = op Add (sample_number 9223372036854775807) (sample_number 1)
 
 -- subtask 0 squares its argument, and subtask 1 tells how many turns are left; there is no other
-abbrev pub sample_answer : Answer
-sample_answer zero (x ∷ []) turns = Ok (product_of x x, turns)
-sample_answer (suc zero) arguments turns = Ok (whole (pos turns), turns)
-sample_answer _ _ turns = Err no_row
+abbrev pub sample_calls : Calls
+sample_calls zero (x ∷ []) turns = Ok (product_of x x, turns)
+sample_calls (suc zero) arguments turns = Ok (whole (pos turns), turns)
+sample_calls _ _ turns = Err no_row
 
 -- a run of the body with so many turns, where the statement's inputs are 4 and 5
-abbrev pub run : Mode → Tree → ℕ → Ran
-run mode body turns = mean mode 7 sample_answer body (whole (pos 4) ∷ whole (pos 5) ∷ []) [] turns
+abbrev pub sample_run : Mode → BodyTree → ℕ → Ran
+sample_run mode body turns = mean mode 7 sample_calls body (whole (pos 4) ∷ whole (pos 5) ∷ []) [] turns
 
 -- the body ends in the number n, with so many turns left
 abbrev pub gives : ℕ → ℕ → Ran

@@ -3,30 +3,30 @@ use Rattle.std.specs.Prelude.{List, [], ◌∷◌, map}
 use Rattle.body_lang.specs.declared.body.Body.{Body}
 use Rattle.body_lang.specs.declared.body.Body.TheOpen.{Body-F}
 use Rattle.body_lang.specs.declared.body.Body.TheFolds.{fold-Body}
-use Rattle.body_lang.specs.BodyTree.{Tree, Trees, num, input, local, neg, op, choice, total, product, iterate, call, none, more}
+use Rattle.body_lang.specs.BodyTree.{BodyTree, BodyTrees, num, input, local, neg, op, choice, total, product, iterate, call, none, more}
 
--- a list of trees
-abbrev pub trees : List Tree → Trees
-trees [] = none
-trees (a ∷ rest) = more a (trees rest)
+-- a list of trees, as the arguments of a call
+abbrev pub body_arguments : List BodyTree → BodyTrees
+body_arguments [] = none
+body_arguments (a ∷ rest) = more a (body_arguments rest)
 
 -- one node, with the trees of its parts in their places
-abbrev pub node : Body-F Tree → Tree
-node (Body-F.Num f) = num f
-node (Body-F.Input i) = input i
-node (Body-F.Local j) = local j
-node (Body-F.Neg a) = neg a
-node (Body-F.Op o a b) = op o a b
-node (Body-F.If c a b p q) = choice c a b p q
-node (Body-F.Sum a b e) = total a b e
-node (Body-F.Prod a b e) = product a b e
-node (Body-F.Iter a b e) = iterate a b e
-node (Body-F.Call k args) = call k (trees args)
+abbrev pub body_node : Body-F BodyTree → BodyTree
+body_node (Body-F.Num f) = num f
+body_node (Body-F.Input i) = input i
+body_node (Body-F.Local j) = local j
+body_node (Body-F.Neg a) = neg a
+body_node (Body-F.Op o a b) = op o a b
+body_node (Body-F.If c a b p q) = choice c a b p q
+body_node (Body-F.Sum a b e) = total a b e
+body_node (Body-F.Prod a b e) = product a b e
+body_node (Body-F.Iter a b e) = iterate a b e
+body_node (Body-F.Call k args) = call k (body_arguments args)
 
 -- a body's tree
-abbrev pub body_tree : Body → Tree
-body_tree = fold-Body Tree node
+abbrev pub body_tree : Body → BodyTree
+body_tree = fold-Body BodyTree body_node
 
 -- the trees of several bodies
-abbrev pub body_trees : List Body → Trees
-body_trees bs = trees (map body_tree bs)
+abbrev pub body_trees : List Body → BodyTrees
+body_trees bs = body_arguments (map body_tree bs)

@@ -3,13 +3,13 @@ ghost use Rattle.std.specs.Prelude.{◌≡◌, ◌↔◌, ℕ, List, Ok};
 ghost use Rattle.priz_frac.specs.Ratio.{Ratio};
 ghost use Rattle.priz_frac.specs.Lowest.{IsLowest};
 ghost use Rattle.priz_frac.specs.Narrow.{IsNarrow};
-ghost use Rattle.body_lang.specs.BodyTree.{Tree};
+ghost use Rattle.body_lang.specs.BodyTree.{BodyTree};
 ghost use Rattle.body_lang.specs.Checked.{checked};
 ghost use Rattle.body_lang.specs.Reads.{IsClosed};
-ghost use Rattle.body_lang.specs.Meaning.{Answer, mean};
+ghost use Rattle.body_lang.specs.Meaning.{Calls, mean};
 ghost use Rattle.body_lang.specs.Mode.{Mode, narrowly, exactly};
 ghost use Rattle.body_lang.specs.Keeping.{MeaningKeeps};
-ghost use Rattle.body_lang.specs.Follows.{Follows, FollowsOnRows, AnswersFollow, AnswersFollowOnRows};
+ghost use Rattle.body_lang.specs.Follows.{RunFollows, RunFollowsOnRows, CallsFollow, CallsFollowOnRows};
 ghost use Rattle.body_lang.specs.OperationExamples.{InputsAreRead, ResultsAreInLowestTerms, DivisionByZeroIsAFault, WidthIsAFault, LeftIsTakenFirst, OneBranchIsTaken, SidesAreTakenFirst};
 ghost use Rattle.body_lang.specs.LoopExamples.{RoundsTakeTurns, TurnComesBeforePart, EachNumberHasARound, EmptyLoopsTakeNoTurn, BoundsAreWhole, ReplacementsAreCounted, LoopsAreNested, ExactLoopsGoOn};
 ghost use Rattle.body_lang.specs.CallExamples.{CallsAreAnswered, ArgumentsAreTakenFirst, AnswersHaveTheTurnsLeft};
@@ -43,12 +43,12 @@ pub fn bodies_mean_what_they_should()
 ///
 /// So width and turns change no value: they only stop a run.
 pub fn exact_meaning_ends_in_the_narrow_value()
-    ensures same { (owner : ℕ) (f g : Answer) → AnswersFollow f g
-        → (body : Tree) (inputs locals : List Ratio) (turns : ℕ)
-        → Follows (mean narrowly owner f body inputs locals turns) (mean exactly owner g body inputs locals) }
-    ensures on_rows { (owner : ℕ) (f g : Answer) → AnswersFollowOnRows f g
-        → (body : Tree) (inputs locals : List Ratio) (turns : ℕ)
-        → FollowsOnRows (mean narrowly owner f body inputs locals turns) (mean exactly owner g body inputs locals) }
+    ensures same { (owner : ℕ) (f g : Calls) → CallsFollow f g
+        → (body : BodyTree) (inputs locals : List Ratio) (turns : ℕ)
+        → RunFollows (mean narrowly owner f body inputs locals turns) (mean exactly owner g body inputs locals) }
+    ensures on_rows { (owner : ℕ) (f g : Calls) → CallsFollowOnRows f g
+        → (body : BodyTree) (inputs locals : List Ratio) (turns : ℕ)
+        → RunFollowsOnRows (mean narrowly owner f body inputs locals turns) (mean exactly owner g body inputs locals) }
 {}
 
 /// Values in lowest terms stay so, in both meanings; those that fit as well, in the narrow one.
@@ -59,5 +59,5 @@ pub fn values_are_in_lowest_terms()
 
 /// A body passes the check just where all that it reads is there.
 pub fn checked_bodies_read_what_is_there()
-    ensures { (inputs : ℕ) (arities : List ℕ) (loops : ℕ) (body : Tree) → (checked inputs arities loops body ≡ Ok tt) ↔ IsClosed inputs arities loops body }
+    ensures { (inputs : ℕ) (arities : List ℕ) (loops : ℕ) (body : BodyTree) → (checked inputs arities loops body ≡ Ok tt) ↔ IsClosed inputs arities loops body }
 {}

@@ -10,8 +10,8 @@ use Rattle.utopist_lexer.specs.declared.mark.Mark.TheVariants as marks
 use Rattle.utopist_syntax.specs.declared.position.Position.{Position}
 use Rattle.utopist_syntax.specs.declared.position.Position.TheVariants.{Alone, Compared, Negated, LeftOf, RightOf}
 use Rattle.utopist_syntax.specs.Named.{Named}
-use Rattle.utopist_syntax.specs.Tree as tree
-use Rattle.utopist_syntax.specs.Tree.{Tree, Trees}
+use Rattle.utopist_syntax.specs.ExprTree as tree
+use Rattle.utopist_syntax.specs.ExprTree.{ExprTree, ExprTrees}
 use Rattle.utopist_syntax.specs.Round.{rounds_op}
 use Rattle.utopist_parser.specs.Symbols as symbols
 use Rattle.utopist_parser.specs.Symbols.{Symbol, end}
@@ -23,7 +23,7 @@ use Rattle.utopist_parser.specs.ExprTree.{all_of, sign_op, scale_op, see_expr, s
 use Rattle.utopist_parser.specs.FileSeen.{all_if_any, see_option, see_path, see_bind, see_kind, see_binds, see_part, see_item, see_concept, see_value, see_given, see_compute, see_file}
 use Rattle.utopist_parser.specs.Arithmetic.{IsArithExpr, IsArith, IsArithTerm, IsArithFactor}
 use Rattle.utopist_parser.specs.FileNesting.{IsItem, IsConcept, IsFile}
-use Rattle.canonical_reading.specs.Piece.{Piece, word, mark, name, number, sub, comma, signed_pieces}
+use Rattle.canonical_reading.specs.Piece.{Piece, word_piece, mark_piece, name_piece, number_piece, sub_piece, comma, signed_pieces}
 use Rattle.canonical_reading.specs.PathPieces.{names_pieces, path_pieces, paths_pieces}
 use Rattle.canonical_reading.specs.ExprPieces.{op_mark, pieces_at, more_pieces, expr_pieces}
 use Rattle.canonical_reading.specs.ItemPieces.{kind_pieces, bind_pieces, binds_pieces, part_pieces, parts_pieces, body_pieces, item_pieces}
@@ -36,12 +36,12 @@ use Rattle.canonical_reading.proofs.Spelt.{Spelt, spelt-nil, spelt-cons, spelt-c
 -- ---- marks
 
 -- the mark of a sign is its operator's
-sign_same : (s : Sign) → mark (op_mark (sign_op s)) ≡ symbol_piece (symbols.mark (sign_mark s))
+sign_same : (s : Sign) → mark_piece (op_mark (sign_op s)) ≡ symbol_piece (symbols.mark (sign_mark s))
 sign_same plus = refl
 sign_same minus = refl
 
 -- so is that of a scale
-scale_same : (s : Scale) → mark (op_mark (scale_op s)) ≡ symbol_piece (symbols.mark (scale_mark s))
+scale_same : (s : Scale) → mark_piece (op_mark (scale_op s)) ≡ symbol_piece (symbols.mark (scale_mark s))
 scale_same times = refl
 scale_same over = refl
 
@@ -106,7 +106,7 @@ product_right_of_product over over = refl
 -- ---- one node
 
 -- each form has the pieces of the tree where it stands
-record Printed (w : Forms) (t : Tree) : Type 0 where
+record Printed (w : Forms) (t : ExprTree) : Type 0 where
   pub alone : Spelt (spell_expr w.expr) (pieces_at Alone t)
   pub compared : Spelt (spell_chain w.chain) (pieces_at Compared t)
   pub left_of_sum : (s : Sign) → Spelt (spell_chain w.chain) (pieces_at (LeftOf (sign_op s)) t)
@@ -116,7 +116,7 @@ record Printed (w : Forms) (t : Tree) : Type 0 where
   pub negated : Spelt (spell_factor w.factor) (pieces_at Negated t)
 
 -- a factor has the same pieces everywhere
-factor_printed : (f : Factor) (t : Tree) → ((p : Position) → Spelt (spell_factor f) (pieces_at p t)) → Printed (of_factor f) t
+factor_printed : (f : Factor) (t : ExprTree) → ((p : Position) → Spelt (spell_factor f) (pieces_at p t)) → Printed (of_factor f) t
 factor_printed f t h = record {
   alone = h Alone;
   compared = h Compared;
@@ -128,11 +128,11 @@ factor_printed f t h = record {
 }
 
 -- the pieces of two operands with their operator
-abbrev two_pieces : Op → Tree → Tree → List Piece
-two_pieces o a b = pieces_at (LeftOf o) a ++ (mark (op_mark o) ∷ pieces_at (RightOf o) b)
+abbrev two_pieces : Op → ExprTree → ExprTree → List Piece
+two_pieces o a b = pieces_at (LeftOf o) a ++ (mark_piece (op_mark o) ∷ pieces_at (RightOf o) b)
 
 -- a product
-term_printed : (x : Term) (o : Scale) (a b : Tree) → Spelt (spell_term x) (two_pieces (scale_op o) a b) → Printed (of_term x) (tree.op (scale_op o) a b)
+term_printed : (x : Term) (o : Scale) (a b : ExprTree) → Spelt (spell_term x) (two_pieces (scale_op o) a b) → Printed (of_term x) (tree.op (scale_op o) a b)
 term_printed x o a b h = record {
   alone = spelt_plain false refl h;
   compared = spelt_plain false refl h;
@@ -144,7 +144,7 @@ term_printed x o a b h = record {
 }
 
 -- a sum
-chain_printed : (x : Chain) (o : Sign) (a b : Tree) → Spelt (spell_chain x) (two_pieces (sign_op o) a b) → Printed (of_chain x) (tree.op (sign_op o) a b)
+chain_printed : (x : Chain) (o : Sign) (a b : ExprTree) → Spelt (spell_chain x) (two_pieces (sign_op o) a b) → Printed (of_chain x) (tree.op (sign_op o) a b)
 chain_printed x o a b h = record {
   alone = spelt_plain false refl h;
   compared = spelt_plain false refl h;
@@ -156,13 +156,13 @@ chain_printed x o a b h = record {
 }
 
 -- the pieces of a choice without parentheses
-abbrev choice_pieces : Cmp → Tree → Tree → Tree → Tree → List Piece
+abbrev choice_pieces : Cmp → ExprTree → ExprTree → ExprTree → ExprTree → List Piece
 choice_pieces c a b t e =
-    (word words.If ∷ pieces_at Compared a) ++ ((mark (cmp_mark c) ∷ pieces_at Compared b)
-    ++ ((word words.Then ∷ pieces_at Alone t) ++ (word words.Else ∷ pieces_at Alone e)))
+    (word_piece words.If ∷ pieces_at Compared a) ++ ((mark_piece (cmp_mark c) ∷ pieces_at Compared b)
+    ++ ((word_piece words.Then ∷ pieces_at Alone t) ++ (word_piece words.Else ∷ pieces_at Alone e)))
 
 -- a choice
-choice_printed : (x : Expression) (c : Cmp) (a b t e : Tree) → Spelt (spell_expr x) (choice_pieces c a b t e) → Printed (of_expr x) (tree.choice c a b t e)
+choice_printed : (x : Expression) (c : Cmp) (a b t e : ExprTree) → Spelt (spell_expr x) (choice_pieces c a b t e) → Printed (of_expr x) (tree.choice c a b t e)
 choice_printed x c a b t e h = record {
   alone = spelt_plain false refl h;
   compared = spelt_round true refl h;
@@ -176,16 +176,16 @@ choice_printed x c a b t e h = record {
 -- ---- names and paths
 
 -- a name
-name_spelt : (n : Named) → Spelt (spell_name n) (name n ∷ [])
+name_spelt : (n : Named) → Spelt (spell_name n) (name_piece n ∷ [])
 name_spelt n = spelt-cons (symbols.name n) spelt-nil
 
 -- a path
 path_spelt : (p : WrittenPath) → Spelt (spell_path p) (path_pieces (see_path p))
-path_spelt p = spelt_joined spell_name (λ n. name n ∷ []) name_spelt marks.Dot p
+path_spelt p = spelt_joined spell_name (λ n. name_piece n ∷ []) name_spelt marks.Dot p
 
 -- names with commas
 names_spelt : (ns : OneOrMore Named) → Spelt (spell_names ns) (names_pieces comma (all_of ns))
-names_spelt ns = spelt_joined spell_name (λ n. name n ∷ []) name_spelt marks.Comma ns
+names_spelt ns = spelt_joined spell_name (λ n. name_piece n ∷ []) name_spelt marks.Comma ns
 
 -- paths with commas
 paths_spelt : (ps : OneOrMore WrittenPath) → Spelt (spell_paths ps) (paths_pieces (map see_path (all_of ps)))
@@ -211,7 +211,7 @@ mutual
   canonical_chain_printed (add c sign t) =
       let p = (canonical_chain_printed c).left_of_sum sign in
       let q = (canonical_term_printed t).right_of_sum sign in
-      chain_printed _ sign (see_chain c) (see_term t) (spelt-append p (spelt-cons_same (symbols.mark (sign_mark sign)) (mark (op_mark (sign_op sign))) (sign_same sign) q))
+      chain_printed _ sign (see_chain c) (see_term t) (spelt-append p (spelt-cons_same (symbols.mark (sign_mark sign)) (mark_piece (op_mark (sign_op sign))) (sign_same sign) q))
 
   -- a term
   canonical_term_printed : (t : Term) → Printed (canonical_term t) (see_term t)
@@ -219,7 +219,7 @@ mutual
   canonical_term_printed (mul t scale f) =
       let p = (canonical_term_printed t).left_of_product scale in
       let q = (canonical_factor_printed f).right_of_product scale in
-      term_printed _ scale (see_term t) (see_factor f) (spelt-append p (spelt-cons_same (symbols.mark (scale_mark scale)) (mark (op_mark (scale_op scale))) (scale_same scale) q))
+      term_printed _ scale (see_term t) (see_factor f) (spelt-append p (spelt-cons_same (symbols.mark (scale_mark scale)) (mark_piece (op_mark (scale_op scale))) (scale_same scale) q))
 
   -- a factor
   canonical_factor_printed : (f : Factor) → Printed (canonical_factor f) (see_factor f)
@@ -233,8 +233,8 @@ mutual
       let p = (canonical_expr_printed first).alone in
       let q = canonical_exprs_printed more in
       let body = spelt-cons (symbols.sub (pos k) place) (spelt-cons (symbols.mark marks.OpenRound) (spelt-append p (spelt-append q (spelt-cons (symbols.mark marks.CloseRound) spelt-nil)))) in
-      let e = append_assoc (pieces_at Alone (see_expr first)) (more_pieces (see_exprs more)) (mark marks.CloseRound ∷ []) in
-      factor_printed _ _ (λ at. spelt-same (ap (λ qs. sub (pos k) ∷ mark marks.OpenRound ∷ qs) e) body)
+      let e = append_assoc (pieces_at Alone (see_expr first)) (more_pieces (see_exprs more)) (mark_piece marks.CloseRound ∷ []) in
+      factor_printed _ _ (λ at. spelt-same (ap (λ qs. sub_piece (pos k) ∷ mark_piece marks.OpenRound ∷ qs) e) body)
   canonical_factor_printed (loop kind n first second each) =
       let p = (canonical_expr_printed first).alone in
       let q = (canonical_expr_printed second).alone in
@@ -302,7 +302,7 @@ binds_spelt (Some bs) =
     (spelt-append (spelt_joined_as spell_bind bind_pieces see_bind bind_spelt marks.Comma bs) (spelt-cons (symbols.mark marks.CloseRound) spelt-nil))
 
 -- what a variable is, with its bindings and the semicolon
-kind_spelt : (kind : WrittenKind) → Spelt (spell_kind kind ++ (symbols.mark marks.Semicolon ∷ [])) (kind_pieces (see_kind kind) ++ (binds_pieces (see_binds kind) ++ (mark marks.Semicolon ∷ [])))
+kind_spelt : (kind : WrittenKind) → Spelt (spell_kind kind ++ (symbols.mark marks.Semicolon ∷ [])) (kind_pieces (see_kind kind) ++ (binds_pieces (see_binds kind) ++ (mark_piece marks.Semicolon ∷ [])))
 kind_spelt numeric = spelt-cons (symbols.word words.Numeric) (spelt-cons (symbols.mark marks.Semicolon) spelt-nil)
 kind_spelt (component n binds) = spelt-cons (symbols.name n) (spelt-append (binds_spelt binds) (spelt-cons (symbols.mark marks.Semicolon) spelt-nil))
 
@@ -311,9 +311,9 @@ part_spelt : (p : WrittenPart) → Spelt (spell_part p) (part_pieces (see_part p
 part_spelt (input p) = path_spelt p
 part_spelt (subtask inputs output) =
     let shut = spelt-cons (symbols.mark marks.CloseSquare) spelt-nil in
-    let e = append_assoc (paths_pieces (map see_path (all_of inputs))) (mark marks.Arrow ∷ path_pieces (see_path output)) (mark marks.CloseSquare ∷ []) in
+    let e = append_assoc (paths_pieces (map see_path (all_of inputs))) (mark_piece marks.Arrow ∷ path_pieces (see_path output)) (mark_piece marks.CloseSquare ∷ []) in
     let a = spelt-cons (symbols.mark marks.OpenSquare) (spelt-append (paths_spelt inputs) (spelt-cons (symbols.mark marks.Arrow) (spelt-append (path_spelt output) shut))) in
-    spelt-same (ap (λ qs. mark marks.OpenSquare ∷ qs) e) a
+    spelt-same (ap (λ qs. mark_piece marks.OpenSquare ∷ qs) e) a
 
 -- parts, if there are any
 parts_spelt : (ps : Option (OneOrMore WrittenPart)) → Spelt (spell_option spell_parts ps) (parts_pieces (map see_part (all_if_any ps)))
@@ -349,8 +349,8 @@ concept_spelt limit c h =
     let shut = spelt-cons (symbols.mark marks.CloseRound) (spelt-cons (symbols.mark marks.Semicolon) spelt-nil) in
     let inside = spelt-append (items_spelt limit c.items h) shut in
     let a = spelt-cons (symbols.word words.Concept) (spelt-cons (symbols.name c.name) (spelt-append (parents_spelt c.parents) (spelt-cons (symbols.mark marks.Colon) (spelt-cons (symbols.mark marks.OpenRound) inside)))) in
-    let e = append_assoc (parents_pieces (all_if_any c.parents)) (mark marks.Colon ∷ mark marks.OpenRound ∷ []) (flat_map item_pieces (map see_item c.items) ++ (mark marks.CloseRound ∷ mark marks.Semicolon ∷ [])) in
-    spelt-same (ap (λ qs. word words.Concept ∷ name c.name ∷ qs) e) a
+    let e = append_assoc (parents_pieces (all_if_any c.parents)) (mark_piece marks.Colon ∷ mark_piece marks.OpenRound ∷ []) (flat_map item_pieces (map see_item c.items) ++ (mark_piece marks.CloseRound ∷ mark_piece marks.Semicolon ∷ [])) in
+    spelt-same (ap (λ qs. word_piece words.Concept ∷ name_piece c.name ∷ qs) e) a
 
 -- concepts in a row
 concepts_spelt : (limit : ℕ) (cs : List WrittenConcept) → All (IsConcept limit) cs → Spelt (flat_map spell_concept (map canonical_concept cs)) (flat_map concept_pieces (map see_concept cs))
@@ -364,17 +364,17 @@ signed_spelt (pos n) a = spelt-cons (symbols.number (pos n)) a
 signed_spelt (negsuc n) a = spelt-cons (symbols.mark marks.Minus) (spelt-cons (symbols.number (pos (suc n))) a)
 
 -- a denominator, if it is to stand there
-below_if : (d : ℕ) (whole : Bool) → Spelt (spell_option spell_below (if whole then None else Some d)) (if whole then [] else mark marks.Slash ∷ number (pos (suc d)) ∷ [])
+below_if : (d : ℕ) (whole : Bool) → Spelt (spell_option spell_below (if whole then None else Some d)) (if whole then [] else mark_piece marks.Slash ∷ number_piece (pos (suc d)) ∷ [])
 below_if d true = spelt-nil
 below_if d false = spelt-cons (symbols.mark marks.Slash) (spelt-cons (symbols.number (pos (suc d))) spelt-nil)
 
 -- a denominator that is positive
-below_spelt : (d : ℕ) → 0 < d → Spelt (spell_option spell_below (written_below d)) (if d == 1 then [] else mark marks.Slash ∷ number (pos d) ∷ [])
+below_spelt : (d : ℕ) → 0 < d → Spelt (spell_option spell_below (written_below d)) (if d == 1 then [] else mark_piece marks.Slash ∷ number_piece (pos d) ∷ [])
 below_spelt zero h = absurd (omega arith)
 below_spelt (suc d) h = below_if d (suc d == 1)
 
 -- a fraction
-ratio_spelt : (x : Ratio) → 0 < x.den → Spelt (spell_value (written_ratio x)) (mark marks.Equal ∷ fraction_pieces x)
+ratio_spelt : (x : Ratio) → 0 < x.den → Spelt (spell_value (written_ratio x)) (mark_piece marks.Equal ∷ fraction_pieces x)
 ratio_spelt x h = spelt-cons (symbols.mark marks.Equal) (signed_spelt x.num (below_spelt x.den h))
 
 -- a value, if there is one

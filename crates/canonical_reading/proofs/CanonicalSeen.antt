@@ -6,8 +6,8 @@ use Rattle.priz_frac.specs.Lowest.{low}
 use Rattle.priz_frac.specs.Sign.{signed_number, signed_ratio}
 use Rattle.priz_frac.proofs.Lowest.{low_is_lowest}
 use Rattle.priz_frac.proofs.Unique.{low-same_iff, low_is_same}
-use Rattle.utopist_syntax.specs.Tree as tree
-use Rattle.utopist_syntax.specs.Tree.{Tree}
+use Rattle.utopist_syntax.specs.ExprTree as tree
+use Rattle.utopist_syntax.specs.ExprTree.{ExprTree}
 use Rattle.utopist_syntax.specs.FileTree as trees
 use Rattle.utopist_parser.specs.Written.{OneOrMore, Expression, choice, plain, Chain, one_term, add, Term, one_factor, mul, Factor, negated, literal, variable, round, call, loop, Further, no_more, and_then}
 use Rattle.utopist_parser.specs.WrittenFile.{WrittenItem, var, eq, rel, WrittenConcept, WrittenNumber, WrittenGiven, WrittenCompute, WrittenFile}
@@ -18,26 +18,26 @@ use Rattle.canonical_reading.proofs.CanonicalForm.{Forms, of_factor, of_term, of
 -- ---- expressions
 
 -- all four forms have this tree
-record Means (w : Forms) (t : Tree) : Type 0 where
+record Means (w : Forms) (t : ExprTree) : Type 0 where
   pub expr : see_expr w.expr ≡ t
   pub chain : see_chain w.chain ≡ t
   pub term : see_term w.term ≡ t
   pub factor : see_factor w.factor ≡ t
 
 -- what a factor is
-factor_means : (f : Factor) (t : Tree) → see_factor f ≡ t → Means (of_factor f) t
+factor_means : (f : Factor) (t : ExprTree) → see_factor f ≡ t → Means (of_factor f) t
 factor_means f t e = record { expr = e; chain = e; term = e; factor = e }
 
 -- what a term is
-term_means : (x : Term) (t : Tree) → see_term x ≡ t → Means (of_term x) t
+term_means : (x : Term) (t : ExprTree) → see_term x ≡ t → Means (of_term x) t
 term_means x t e = record { expr = e; chain = e; term = e; factor = e }
 
 -- what a chain is
-chain_means : (c : Chain) (t : Tree) → see_chain c ≡ t → Means (of_chain c) t
+chain_means : (c : Chain) (t : ExprTree) → see_chain c ≡ t → Means (of_chain c) t
 chain_means c t e = record { expr = e; chain = e; term = e; factor = e }
 
 -- what an expression is
-expr_means : (x : Expression) (t : Tree) → see_expr x ≡ t → Means (of_expr x) t
+expr_means : (x : Expression) (t : ExprTree) → see_expr x ≡ t → Means (of_expr x) t
 expr_means x t e = record { expr = e; chain = e; term = e; factor = e }
 
 mutual

@@ -21,7 +21,7 @@ use Rattle.utopist_syntax.specs.ConceptText.{parents_text, item_line, concept_te
 use Rattle.utopist_syntax.specs.FractionText.{fraction_text}
 use Rattle.utopist_syntax.specs.ComputeText.{value_text, given_text, givens_text, compute_text}
 use Rattle.utopist_syntax.specs.Canonical.{canonical}
-use Rattle.canonical_reading.specs.Piece.{Piece, HasPieces, mark, number, comma}
+use Rattle.canonical_reading.specs.Piece.{Piece, HasPieces, mark_piece, number_piece, comma}
 use Rattle.canonical_reading.specs.ItemPieces.{item_pieces}
 use Rattle.canonical_reading.specs.FilePieces.{parents_pieces, concept_pieces, fraction_pieces, value_pieces, given_pieces, givens_pieces, compute_pieces, file_pieces}
 use Rattle.canonical_reading.specs.Printable.{PrintableName, PrintableItem, PrintableConcept, PrintableFraction, PrintableValue, PrintableGiven, PrintableCompute, Printable}
@@ -34,11 +34,11 @@ use Rattle.canonical_reading.proofs.ItemForms.{path_form, paths_form, item_form}
 -- ---- ends of lines
 
 -- a semicolon and a line feed
-semicolon_line : Form anything free (codes ";\n") (mark marks.Semicolon ∷ [])
+semicolon_line : Form anything free (codes ";\n") (mark_piece marks.Semicolon ∷ [])
 semicolon_line = then_blanks (mark_form marks.Semicolon refl) line_feed refl
 
 -- a colon, what opens the items, and a line feed
-opens_items : Form anything free (codes " : (\n") (mark marks.Colon ∷ mark marks.OpenRound ∷ [])
+opens_items : Form anything free (codes " : (\n") (mark_piece marks.Colon ∷ mark_piece marks.OpenRound ∷ [])
 opens_items = let f = joins (spaced_mark marks.Colon refl) (then_blanks (mark_form marks.OpenRound refl) line_feed refl) refl in f
 
 -- ---- concepts
@@ -62,7 +62,7 @@ concept_form c h =
 -- ---- compute statements
 
 -- nothing, or / and the denominator
-den_form : (whole : Bool) (n : ℕ) → n ≤ max_number → Form free free (if whole then [] else codes "/" ++ decimal n) (if whole then [] else mark marks.Slash ∷ number (pos n) ∷ [])
+den_form : (whole : Bool) (n : ℕ) → n ≤ max_number → Form free free (if whole then [] else codes "/" ++ decimal n) (if whole then [] else mark_piece marks.Slash ∷ number_piece (pos n) ∷ [])
 den_form true n h = none_form free
 den_form false n h = let f = joins (mark_form marks.Slash refl) (number_form (pos n) h) refl in f
 

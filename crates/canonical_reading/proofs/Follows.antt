@@ -11,7 +11,7 @@ use Rattle.utopist_lexer.specs.Places.{first_place, place_behind}
 use Rattle.utopist_lexer.specs.Spelling.{mark_text}
 use Rattle.utopist_lexer.specs.Lexical.{Tok, Spells, IsToken}
 use Rattle.utopist_lexer.specs.Tokens.{ReadsTo}
-use Rattle.utopist_lexer.specs.Tables.{mark_at}
+use Rattle.utopist_lexer.specs.Tables.{front_mark}
 use Rattle.utopist_lexer.specs.Cutting.{StopsAt}
 use Rattle.utopist_lexer.proofs.Spellings.{mark_at-text}
 use Rattle.utopist_lexer.proofs.Leads.{lead, other, spells_lead, spells_something, other_mark}
@@ -116,7 +116,7 @@ greater_none k [] rest cs e s = spells_something k s
 greater_none k (d ∷ ds) rest cs e s =
     let same : d ≡ 62 = cc in
     let m = other_mark k (d ∷ ds) (sym (spells_lead k d ds s) ∙ ap lead same ∙ greater_lead) s in
-    let there : mark_at (62 ∷ ds) ≡ Some m.0 = ap (λ (x : ℕ). mark_at (x ∷ ds)) (sym same) ∙ ap mark_at m.1 ∙ mark_at-text m.0 in
+    let there : front_mark (62 ∷ ds) ≡ Some m.0 = ap (λ (x : ℕ). front_mark (x ∷ ds)) (sym same) ∙ ap front_mark m.1 ∙ mark_at-text m.0 in
     let none : None ≡ Some m.0 = there in
     cc
 

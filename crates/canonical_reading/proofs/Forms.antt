@@ -8,7 +8,7 @@ use Rattle.utopist_lexer.specs.Gap.{past_gap}
 use Rattle.utopist_lexer.specs.Lexical.{IsFree, IsToken}
 use Rattle.utopist_lexer.specs.Cutting.{StopsAt}
 use Rattle.canonical_reading.specs.Piece.{Piece}
-use Rattle.canonical_reading.specs.Printable.{OneOrMore}
+use Rattle.canonical_reading.specs.Printable.{SomeAndAll}
 use Rattle.canonical_reading.proofs.Classes.{free_stops}
 use Rattle.canonical_reading.proofs.Follows.{Follows, opens}
 
@@ -144,7 +144,7 @@ module _ {X : Type 0} (P : X → Type 0) (f : X → List ℕ) (g : X → List Pi
   tail_form n q between seps each sep e (x ∷ xs) h = joins (joins (offers n sep e) (each x h.0) refl) (tail_form n q between seps each sep e xs h.1) (meets_same n)
 
   -- one or more elements joined
-  pub join_form : (n q : Next) (between : List ℕ) (seps : List Piece) → ((x : X) → P x → Form n anything (f x) (g x)) → Form anything q between seps → meets n q ≡ true → (xs : List X) → OneOrMore P xs → Form n anything (join_by f between xs) (join_by g seps xs)
+  pub join_form : (n q : Next) (between : List ℕ) (seps : List Piece) → ((x : X) → P x → Form n anything (f x) (g x)) → Form anything q between seps → meets n q ≡ true → (xs : List X) → SomeAndAll P xs → Form n anything (join_by f between xs) (join_by g seps xs)
   join_form n q between seps each sep e [] h = absurd h
   join_form n q between seps each sep e (x ∷ xs) h = joins (each x h.0) (tail_form n q between seps each sep e xs h.1) (meets_same n)
 

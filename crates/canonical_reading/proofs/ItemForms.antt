@@ -14,16 +14,16 @@ use Rattle.utopist_syntax.specs.declared.item.Bind.{Bind}
 use Rattle.utopist_syntax.specs.declared.item.Part.{Part}
 use Rattle.utopist_syntax.specs.declared.item.Part.TheVariants.{Input, Subtask}
 use Rattle.utopist_syntax.specs.PathText.{path_text, paths_text}
-use Rattle.utopist_syntax.specs.Tree.{Tree}
-use Rattle.utopist_syntax.specs.FileTree.{body_tree, item_tree}
+use Rattle.utopist_syntax.specs.ExprTree.{ExprTree}
+use Rattle.utopist_syntax.specs.FileTree.{body_expr_tree, item_tree}
 use Rattle.utopist_syntax.specs.View.{tree_of}
 use Rattle.utopist_syntax.specs.ExprText.{expr_text}
 use Rattle.utopist_syntax.specs.ItemText.{kind_text, bind_text, binds_text, task_text, part_text, parts_text, body_text, item_text}
 use Rattle.canonical_reading.specs.PathPieces.{path_pieces, paths_pieces}
-use Rattle.canonical_reading.specs.Piece.{mark, comma}
+use Rattle.canonical_reading.specs.Piece.{mark_piece, comma}
 use Rattle.canonical_reading.specs.ExprPieces.{expr_pieces}
 use Rattle.canonical_reading.specs.ItemPieces.{kind_pieces, bind_pieces, binds_pieces, task_pieces, part_pieces, parts_pieces, body_pieces, item_pieces}
-use Rattle.canonical_reading.specs.Printable.{OneOrMore, PrintablePath, PrintableTree, PrintableKind, PrintableBind, PrintablePart, PrintableBody, PrintableItem}
+use Rattle.canonical_reading.specs.Printable.{SomeAndAll, PrintablePath, PrintableTree, PrintableKind, PrintableBind, PrintablePart, PrintableBody, PrintableItem}
 use Rattle.canonical_reading.proofs.Forms.{anything, stops, free, Form, none_form, joins, asks, offers, then_blanks, join_form}
 use Rattle.canonical_reading.proofs.PieceForms.{space, word_form, name_form, mark_form}
 use Rattle.canonical_reading.proofs.Spaced.{word_space, mark_space, space_mark, spaced_mark, comma_form, names_form, dotted_form}
@@ -36,11 +36,11 @@ pub path_form : (p : Path) → PrintablePath p → Form stops anything (path_tex
 path_form p h = dotted_form p.parts h
 
 -- paths joined by commas
-pub paths_form : (paths : List Path) → OneOrMore PrintablePath paths → Form stops anything (paths_text paths) (paths_pieces paths)
+pub paths_form : (paths : List Path) → SomeAndAll PrintablePath paths → Form stops anything (paths_text paths) (paths_pieces paths)
 paths_form paths h = join_form PrintablePath path_text path_pieces stops free (codes ", ") comma path_form comma_form refl paths h
 
 -- an expression
-expr_form : (t : Tree) → PrintableTree t → Form free anything (expr_text t) (expr_pieces t)
+expr_form : (t : ExprTree) → PrintableTree t → Form free anything (expr_text t) (expr_pieces t)
 expr_form t h = tree_form _ t h
 
 -- what a variable is
@@ -82,7 +82,7 @@ parts_form (p ∷ ps) h =
     then_blanks joined space refl
 
 -- nothing, or the body in braces
-body_form : (body : Option Expr) → PrintableBody (body_tree body) → Form free free (body_text body) (body_pieces (body_tree body))
+body_form : (body : Option Expr) → PrintableBody (body_expr_tree body) → Form free free (body_text body) (body_pieces (body_expr_tree body))
 body_form None h = none_form free
 body_form (Some e) h =
     let f = asks free (joins (spaced_mark marks.OpenCurly refl) (joins (expr_form (tree_of e) h) (space_mark marks.CloseCurly refl) refl) refl) refl in f
@@ -90,7 +90,7 @@ body_form (Some e) h =
 -- ---- items
 
 -- a semicolon
-semicolon : Form anything free (codes ";") (mark marks.Semicolon ∷ [])
+semicolon : Form anything free (codes ";") (mark_piece marks.Semicolon ∷ [])
 semicolon = mark_form marks.Semicolon refl
 
 -- an item with its semicolon

@@ -17,7 +17,7 @@ use Rattle.utopist_lexer.specs.declared.token.Kind.TheVariants as kinds
 use Rattle.utopist_lexer.specs.Characters.{is_continue}
 use Rattle.utopist_lexer.specs.Spelling.{word_text, mark_text}
 use Rattle.utopist_lexer.specs.Lexical.{IsIdentifier, AreDigits, value_behind, value_of, Spells, IsFree, IsToken, max_name, max_number}
-use Rattle.utopist_lexer.specs.Tables.{mark_at}
+use Rattle.utopist_lexer.specs.Tables.{front_mark}
 use Rattle.utopist_lexer.specs.Cutting.{StopsAt}
 use Rattle.utopist_lexer.proofs.Spellings.{mark_greatest}
 use Rattle.utopist_lexer.proofs.Leads.{letter_lead, digit_lead, dollar_lead, spells_lead, spells_something, letter_identifier, digit_digits, dollar_digits, other_mark, word_identifier}
@@ -56,7 +56,7 @@ sub_longest digits rest stops more after k e s =
     no_more is_ascii_digit digits rest more after stops e (subst (λ (l : List ℕ). list_all is_ascii_digit l ≡ true) (sym same) d.2.1)
 
 -- nor what goes on behind a mark that is found
-mark_longest : (m : Mark) (text rest : List ℕ) → text ≡ mark_text m → mark_at (text ++ rest) ≡ Some m → (more after : List ℕ) (k : Kind) → rest ≡ more ++ after → Spells k (text ++ more) → more ≡ []
+mark_longest : (m : Mark) (text rest : List ℕ) → text ≡ mark_text m → front_mark (text ++ rest) ≡ Some m → (more after : List ℕ) (k : Kind) → rest ≡ more ++ after → Spells k (text ++ more) → more ≡ []
 mark_longest m [] rest is found more after k e s = absurd (spells_something (kinds.Mark m) is)
 mark_longest m (c ∷ cs) rest is found more after k e s =
     let n = other_mark k (c ∷ (cs ++ more)) (sym (spells_lead k c (cs ++ more) s) ∙ spells_lead (kinds.Mark m) c cs is) s in
@@ -81,7 +81,7 @@ word_token w rest stops = record {
 }
 
 -- a mark that is found at the front
-pub mark_token : (m : Mark) (rest : List ℕ) → mark_at (mark_text m ++ rest) ≡ Some m → IsToken (kinds.Mark m) (mark_text m) rest
+pub mark_token : (m : Mark) (rest : List ℕ) → front_mark (mark_text m ++ rest) ≡ Some m → IsToken (kinds.Mark m) (mark_text m) rest
 mark_token m rest found = record {
   longest = record { spelled = refl; longest = mark_longest m (mark_text m) rest refl found };
   within = tt;

@@ -11,11 +11,11 @@ use Rattle.utopist_lexer.specs.declared.mark.Mark.{Mark}
 use Rattle.utopist_lexer.specs.declared.mark.Mark.TheVariants as marks
 use Rattle.utopist_lexer.specs.Spelling.{word_text, mark_text}
 use Rattle.utopist_lexer.specs.Lexical.{max_name, max_number}
-use Rattle.utopist_lexer.specs.Tables.{mark_at}
+use Rattle.utopist_lexer.specs.Tables.{front_mark}
 use Rattle.utopist_lexer.specs.Cutting.{StopsAt}
 use Rattle.utopist_lexer.proofs.Leads.{word_ascii, mark_ascii}
 use Rattle.utopist_syntax.specs.Named.{Named}
-use Rattle.canonical_reading.specs.Piece.{Piece, word, mark, name, number, sub, signed_pieces}
+use Rattle.canonical_reading.specs.Piece.{Piece, word_piece, mark_piece, name_piece, number_piece, sub_piece, signed_pieces}
 use Rattle.canonical_reading.specs.Printable.{PrintableName, PrintableNumber}
 use Rattle.canonical_reading.proofs.Classes.{stops_ascii, free_ascii}
 use Rattle.canonical_reading.proofs.Longest.{name_token, word_token, mark_token, number_token, sub_token, small}
@@ -39,44 +39,44 @@ line_feed = blanks_form (codes "\n") (one_ascii 10 (omega arith)) (λ cs. refl) 
 -- ---- keywords and names
 
 -- a keyword
-pub word_form : (w : Word) → Form stops anything (word_text w) (word w ∷ [])
+pub word_form : (w : Word) → Form stops anything (word_text w) (word_piece w ∷ [])
 word_form w = record {
-  lays = λ rest qs l. piece_lays stops anything (word w) (word_text w) rest qs (IsUtf8-from_ascii (word_text w) (word_ascii w)) (chars-IsAscii (word_text w) (word_ascii w)) (word_token w (chars rest) l.front) tt l;
+  lays = λ rest qs l. piece_lays stops anything (word_piece w) (word_text w) rest qs (IsUtf8-from_ascii (word_text w) (word_ascii w)) (chars-IsAscii (word_text w) (word_ascii w)) (word_token w (chars rest) l.front) tt l;
 }
 
 -- a name
-pub name_form : (n : Named) → PrintableName n → Form stops anything n.text (name n ∷ [])
+pub name_form : (n : Named) → PrintableName n → Form stops anything n.text (name_piece n ∷ [])
 name_form n p = record {
   lays = λ rest qs l.
       let short = subst (λ (t : List ℕ). length t ≤ max_name) (sym (encodes-chars n.text p.utf8)) p.short in
-      piece_lays stops anything (name n) n.text rest qs p.utf8 refl (name_token (chars n.text) (chars rest) p.spells short l.front) tt l;
+      piece_lays stops anything (name_piece n) n.text rest qs p.utf8 refl (name_token (chars n.text) (chars rest) p.spells short l.front) tt l;
 }
 
 -- ---- numbers
 
 -- a natural number
-decimal_form : (n : ℕ) → n ≤ max_number → Form free anything (decimal n) (number (pos n) ∷ [])
+decimal_form : (n : ℕ) → n ≤ max_number → Form free anything (decimal n) (number_piece (pos n) ∷ [])
 decimal_form n h = record {
   lays = λ rest qs l.
       let a = IsAscii-decimal n (small n h) in
-      piece_lays free anything (number (pos n)) (decimal n) rest qs (IsUtf8-from_ascii (decimal n) a) (chars-IsAscii (decimal n) a) (number_token n (chars rest) h l.front) tt l;
+      piece_lays free anything (number_piece (pos n)) (decimal n) rest qs (IsUtf8-from_ascii (decimal n) a) (chars-IsAscii (decimal n) a) (number_token n (chars rest) h l.front) tt l;
 }
 
 -- $ and a natural number
-dollar_form : (n : ℕ) → n ≤ max_number → Form free anything (36 ∷ decimal n) (sub (pos n) ∷ [])
+dollar_form : (n : ℕ) → n ≤ max_number → Form free anything (36 ∷ decimal n) (sub_piece (pos n) ∷ [])
 dollar_form n h = record {
   lays = λ rest qs l.
       let a = IsAscii-cons 36 (decimal n) (omega arith) (IsAscii-decimal n (small n h)) in
-      piece_lays free anything (sub (pos n)) (36 ∷ decimal n) rest qs (IsUtf8-from_ascii (36 ∷ decimal n) a) (chars-IsAscii (36 ∷ decimal n) a) (sub_token n (chars rest) h l.front) tt l;
+      piece_lays free anything (sub_piece (pos n)) (36 ∷ decimal n) rest qs (IsUtf8-from_ascii (36 ∷ decimal n) a) (chars-IsAscii (36 ∷ decimal n) a) (sub_token n (chars rest) h l.front) tt l;
 }
 
 -- a number that is not negative
-pub number_form : (z : ℤ) → PrintableNumber z → Form free anything (signed_decimal z) (number z ∷ [])
+pub number_form : (z : ℤ) → PrintableNumber z → Form free anything (signed_decimal z) (number_piece z ∷ [])
 number_form (pos n) h = decimal_form n h
 number_form (negsuc n) h = absurd h
 
 -- $ and a number that is not negative
-pub sub_form : (z : ℤ) → PrintableNumber z → Form free anything (36 ∷ signed_decimal z) (sub z ∷ [])
+pub sub_form : (z : ℤ) → PrintableNumber z → Form free anything (36 ∷ signed_decimal z) (sub_piece z ∷ [])
 sub_form (pos n) h = dollar_form n h
 sub_form (negsuc n) h = absurd h
 
@@ -93,12 +93,12 @@ mark_front marks.Dot = stops
 mark_front m = free
 
 -- - is found where no > follows it
-minus_found : (cs : List ℕ) → StopsAt (λ c. eqb 62 c) cs → mark_at (45 ∷ cs) ≡ Some marks.Minus
+minus_found : (cs : List ℕ) → StopsAt (λ c. eqb 62 c) cs → front_mark (45 ∷ cs) ≡ Some marks.Minus
 minus_found [] s = refl
 minus_found (c ∷ cs) s = rw s refl
 
 -- a mark is found at the front of a text that has its tokens
-mark_found : (m : Mark) (cs : List ℕ) (ps : List Piece) → is_sure m ≡ true → Follows cs ps → mark_at (mark_text m ++ cs) ≡ Some m
+mark_found : (m : Mark) (cs : List ℕ) (ps : List Piece) → is_sure m ≡ true → Follows cs ps → front_mark (mark_text m ++ cs) ≡ Some m
 mark_found marks.OpenRound cs ps e f = refl
 mark_found marks.CloseRound cs ps e f = refl
 mark_found marks.OpenSquare cs ps e f = refl
@@ -140,22 +140,22 @@ mark_holds marks.Slash cs = free_ascii 47 (omega arith) refl refl
 mark_holds marks.Arrow cs = free_ascii 45 (omega arith) refl refl
 
 -- a mark that is found there, before what is laid
-mark_lays : (n : Next) (m : Mark) (rest : List ℕ) (qs : List Piece) → mark_at (mark_text m ++ chars rest) ≡ Some m → Laid n rest qs → Laid (mark_front m) (mark_text m ++ rest) (mark m ∷ qs)
+mark_lays : (n : Next) (m : Mark) (rest : List ℕ) (qs : List Piece) → front_mark (mark_text m ++ chars rest) ≡ Some m → Laid n rest qs → Laid (mark_front m) (mark_text m ++ rest) (mark_piece m ∷ qs)
 mark_lays n m rest qs found l =
-    piece_lays n (mark_front m) (mark m) (mark_text m) rest qs (IsUtf8-from_ascii (mark_text m) (mark_ascii m)) (chars-IsAscii (mark_text m) (mark_ascii m)) (mark_token m (chars rest) found) (mark_holds m (chars rest)) l
+    piece_lays n (mark_front m) (mark_piece m) (mark_text m) rest qs (IsUtf8-from_ascii (mark_text m) (mark_ascii m)) (chars-IsAscii (mark_text m) (mark_ascii m)) (mark_token m (chars rest) found) (mark_holds m (chars rest)) l
 
 -- a mark other than <
-pub mark_form : (m : Mark) → is_sure m ≡ true → Form anything (mark_front m) (mark_text m) (mark m ∷ [])
+pub mark_form : (m : Mark) → is_sure m ≡ true → Form anything (mark_front m) (mark_text m) (mark_piece m ∷ [])
 mark_form m e = record { lays = λ rest qs l. mark_lays anything m rest qs (mark_found m (chars rest) qs e l.follows) l }
 
 -- < and a space
-pub less_form : Form anything free (codes "< ") (mark marks.Less ∷ [])
+pub less_form : Form anything free (codes "< ") (mark_piece marks.Less ∷ [])
 less_form = record {
   lays = λ rest qs l.
       let behind = space.lays rest qs l in
       let is : chars (32 ∷ rest) ≡ 32 ∷ chars rest =
       chars-append (32 ∷ []) rest (IsUtf8-from_ascii (32 ∷ []) (one_ascii 32 (omega arith))) ∙ ap (λ (x : List ℕ). x ++ chars rest) (chars-IsAscii (32 ∷ []) (one_ascii 32 (omega arith))) in
-      mark_lays free marks.Less (32 ∷ rest) qs (ap (λ (x : List ℕ). mark_at (60 ∷ x)) is) behind;
+      mark_lays free marks.Less (32 ∷ rest) qs (ap (λ (x : List ℕ). front_mark (60 ∷ x)) is) behind;
 }
 
 -- a number of any sign

@@ -11,7 +11,7 @@ use Rattle.utopist_parser.specs.Symbols.{Symbol}
 use Rattle.utopist_parser.specs.Written.{OneOrMore}
 use Rattle.utopist_parser.specs.ExprSymbols.{behind, separated}
 use Rattle.utopist_parser.specs.ExprTree.{all_of}
-use Rattle.canonical_reading.specs.Piece.{Piece, mark}
+use Rattle.canonical_reading.specs.Piece.{Piece, mark_piece}
 use Rattle.canonical_reading.specs.ExprPieces.{round_pieces}
 use Rattle.canonical_reading.proofs.SymbolPiece.{symbol_piece}
 
@@ -55,12 +55,12 @@ spelt_round {xs} {ps} needed e a =
 
 module _ {X : Type 0} (spell : X → List Symbol) (show : X → List Piece) (each : (x : X) → Spelt (spell x) (show x)) where
   -- each with its separator before it
-  spelt_behind : (m : Mark) (xs : List X) → Spelt (flat_map (behind m spell) xs) (flat_map (λ y. (mark m ∷ []) ++ show y) xs)
+  spelt_behind : (m : Mark) (xs : List X) → Spelt (flat_map (behind m spell) xs) (flat_map (λ y. (mark_piece m ∷ []) ++ show y) xs)
   spelt_behind m [] = spelt-nil
   spelt_behind m (x ∷ xs) = let a = spelt-append (spelt-cons (symbols.mark m) (each x)) (spelt_behind m xs) in a
 
   -- one or more with separators
-  pub spelt_joined : (m : Mark) (xs : OneOrMore X) → Spelt (separated m spell xs) (join_by show (mark m ∷ []) (all_of xs))
+  pub spelt_joined : (m : Mark) (xs : OneOrMore X) → Spelt (separated m spell xs) (join_by show (mark_piece m ∷ []) (all_of xs))
   spelt_joined m xs = let a = spelt-append (each xs.first) (spelt_behind m xs.more) in a
 
 -- elements in a row that are written and seen in their own ways, and of which P holds
@@ -70,9 +70,9 @@ spelt_row_of P spell show write see each (x ∷ xs) h =
     spelt-append (each x (All-head P x xs h)) (spelt_row_of P spell show write see each xs (All-tail P x xs h))
 
 -- one or more with separators, of which the pieces are those of what is seen
-pub spelt_joined_as : {X V : Type 0} (spell : X → List Symbol) (show : V → List Piece) (see : X → V) → ((x : X) → Spelt (spell x) (show (see x))) → (m : Mark) (xs : OneOrMore X) → Spelt (separated m spell xs) (join_by show (mark m ∷ []) (map see (all_of xs)))
+pub spelt_joined_as : {X V : Type 0} (spell : X → List Symbol) (show : V → List Piece) (see : X → V) → ((x : X) → Spelt (spell x) (show (see x))) → (m : Mark) (xs : OneOrMore X) → Spelt (separated m spell xs) (join_by show (mark_piece m ∷ []) (map see (all_of xs)))
 spelt_joined_as spell show see each m xs =
-    spelt-same (ap (λ ps. show (see xs.first) ++ ps) (flat_map-map (λ y. (mark m ∷ []) ++ show y) see xs.more)) (spelt_joined spell (λ x. show (see x)) each m xs)
+    spelt-same (ap (λ ps. show (see xs.first) ++ ps) (flat_map-map (λ y. (mark_piece m ∷ []) ++ show y) see xs.more)) (spelt_joined spell (λ x. show (see x)) each m xs)
 
 module _ {X Y V : Type 0} (spell : Y → List Symbol) (show : V → List Piece) (write : X → Y) (see : X → V) (each : (x : X) → Spelt (spell (write x)) (show (see x))) where
   -- elements in a row that are written and seen in their own ways
@@ -81,10 +81,10 @@ module _ {X Y V : Type 0} (spell : Y → List Symbol) (show : V → List Piece) 
   spelt_row_seen (x ∷ xs) = spelt-append (each x) (spelt_row_seen xs)
 
   -- each with its separator before it
-  spelt_behind_seen : (m : Mark) (xs : List X) → Spelt (flat_map (behind m spell) (map write xs)) (flat_map (λ y. (mark m ∷ []) ++ show y) (map see xs))
+  spelt_behind_seen : (m : Mark) (xs : List X) → Spelt (flat_map (behind m spell) (map write xs)) (flat_map (λ y. (mark_piece m ∷ []) ++ show y) (map see xs))
   spelt_behind_seen m [] = spelt-nil
   spelt_behind_seen m (x ∷ xs) = let a = spelt-append (spelt-cons (symbols.mark m) (each x)) (spelt_behind_seen m xs) in a
 
   -- one or more with separators
-  pub spelt_joined_seen : (m : Mark) (xs : OneOrMore X) → Spelt (separated m spell (record { first = write xs.first; more = map write xs.more })) (join_by show (mark m ∷ []) (map see (all_of xs)))
+  pub spelt_joined_seen : (m : Mark) (xs : OneOrMore X) → Spelt (separated m spell (record { first = write xs.first; more = map write xs.more })) (join_by show (mark_piece m ∷ []) (map see (all_of xs)))
   spelt_joined_seen m xs = let a = spelt-append (each xs.first) (spelt_behind_seen m xs.more) in a

@@ -4,19 +4,19 @@ use Rattle.utopist_lexer.specs.declared.token.Kind.{Kind}
 use Rattle.utopist_lexer.specs.declared.token.Kind.TheVariants as kinds
 use Rattle.utopist_parser.specs.Symbols as symbols
 use Rattle.utopist_parser.specs.Symbols.{Symbol}
-use Rattle.canonical_reading.specs.Piece.{Piece, word, mark, name, number, sub}
+use Rattle.canonical_reading.specs.Piece.{Piece, word_piece, mark_piece, name_piece, number_piece, sub_piece}
 
 -- the piece of a token of this kind; a name has its text from elsewhere, and the end of the text has none
 abbrev pub kind_piece : Kind → Piece
-kind_piece (kinds.Word w) = word w
-kind_piece (kinds.Mark m) = mark m
-kind_piece (kinds.Number z) = number z
-kind_piece (kinds.Sub z) = sub z
+kind_piece (kinds.Word w) = word_piece w
+kind_piece (kinds.Mark m) = mark_piece m
+kind_piece (kinds.Number z) = number_piece z
+kind_piece (kinds.Sub z) = sub_piece z
 kind_piece kinds.Name = record { kind = kinds.Name; text = [] }
 kind_piece kinds.End = record { kind = kinds.End; text = [] }
 
 -- what a token is, and its characters, wherever it stands
 abbrev pub symbol_piece : Symbol → Piece
-symbol_piece (symbols.name n) = name n
-symbol_piece (symbols.sub z place) = sub z
+symbol_piece (symbols.name n) = name_piece n
+symbol_piece (symbols.sub z place) = sub_piece z
 symbol_piece (symbols.fixed k) = kind_piece k

@@ -13,7 +13,7 @@ use Rattle.utopist_parser.specs.ExprSymbols.{spell_name, spell_path}
 use Rattle.utopist_parser.specs.ExprTree.{all_of, see_expr}
 use Rattle.utopist_parser.specs.FileSymbols.{spell_option, spell_names, spell_paths, spell_bind, spell_binds, spell_kind, spell_part, spell_parts, spell_body, spell_item, spell_parents, spell_concept, spell_below, spell_minus, spell_value, spell_given, spell_givens, spell_compute, spell_file}
 use Rattle.utopist_parser.specs.FileSeen.{all_if_any, see_option, see_path, see_bind, see_kind, see_binds, see_part, see_item, see_concept, see_given, see_compute, see_file}
-use Rattle.canonical_reading.specs.Printable.{OneOrMore, PrintableName, PrintableNames, PrintablePath, PrintableKind, PrintableBind, PrintablePart, PrintableBody, PrintableItem, PrintableConcept, PrintableGiven, PrintableCompute, Printable}
+use Rattle.canonical_reading.specs.Printable.{SomeAndAll, PrintableName, PrintableNames, PrintablePath, PrintableKind, PrintableBind, PrintablePart, PrintableBody, PrintableItem, PrintableConcept, PrintableGiven, PrintableCompute, Printable}
 use Rattle.canonical_reading.proofs.ToldExpr.{Told, before, nothing, a_word, a_mark, a_number, a_name, the_end, many, parted, name_told, path_told, expr_told, chain_told}
 
 -- ---- what is seen of several forms
@@ -29,18 +29,18 @@ many_seen : {X V : Type 0} (spell : X → List Symbol) (see : X → V) (P : V �
 many_seen spell see P h xs a = many spell (λ x. P (see x)) h xs (each_seen see P xs a)
 
 -- one or more of them
-one_or_more_seen : {X V : Type 0} (see : X → V) (P : V → Type 0) (xs : written.OneOrMore X) → OneOrMore P (map see (all_of xs)) → OneOrMore (λ x. P (see x)) (all_of xs)
+one_or_more_seen : {X V : Type 0} (see : X → V) (P : V → Type 0) (xs : written.OneOrMore X) → SomeAndAll P (map see (all_of xs)) → SomeAndAll (λ x. P (see x)) (all_of xs)
 one_or_more_seen see P xs a = (a.0, each_seen see P xs.more a.1)
 
 -- parts that may be left out
-if_any : {X : Type 0} (spell : written.OneOrMore X → List Symbol) (P : X → Type 0) → ((xs : written.OneOrMore X) → OneOrMore P (all_of xs) → Told (spell xs))
+if_any : {X : Type 0} (spell : written.OneOrMore X → List Symbol) (P : X → Type 0) → ((xs : written.OneOrMore X) → SomeAndAll P (all_of xs) → Told (spell xs))
     → (o : Option (written.OneOrMore X)) → AllByRecursion P (all_if_any o) → Told (spell_option spell o)
 if_any spell P h None a = nothing
 if_any spell P h (Some xs) a = h xs a
 
 -- parts that may be left out, of which what is seen can be printed
 if_any_seen : {X V : Type 0} (spell : written.OneOrMore X → List Symbol) (see : X → V) (P : V → Type 0)
-    → ((xs : written.OneOrMore X) → OneOrMore (λ x. P (see x)) (all_of xs) → Told (spell xs)) → (o : Option (written.OneOrMore X)) → AllByRecursion P (map see (all_if_any o)) → Told (spell_option spell o)
+    → ((xs : written.OneOrMore X) → SomeAndAll (λ x. P (see x)) (all_of xs) → Told (spell xs)) → (o : Option (written.OneOrMore X)) → AllByRecursion P (map see (all_if_any o)) → Told (spell_option spell o)
 if_any_seen spell see P h None a = nothing
 if_any_seen spell see P h (Some xs) a = h xs (one_or_more_seen see P xs a)
 
@@ -55,7 +55,7 @@ names_told : (ns : written.OneOrMore Named) → PrintableNames (all_of ns) → T
 names_told ns h = parted marks.Comma spell_name PrintableName name_told ns h
 
 -- paths joined by commas
-paths_told : (ps : written.OneOrMore WrittenPath) → OneOrMore PrintablePath (map see_path (all_of ps)) → Told (spell_paths ps)
+paths_told : (ps : written.OneOrMore WrittenPath) → SomeAndAll PrintablePath (map see_path (all_of ps)) → Told (spell_paths ps)
 paths_told ps h = parted marks.Comma spell_path (λ p. PrintablePath (see_path p)) path_told ps (one_or_more_seen see_path PrintablePath ps h)
 
 -- a binding
@@ -63,7 +63,7 @@ bind_told : (b : WrittenBind) → PrintableBind (see_bind b) → Told (spell_bin
 bind_told b h = before (path_told b.left h.0) (a_mark marks.Equal (path_told b.right h.1))
 
 -- bindings in parentheses
-binds_told : (bs : written.OneOrMore WrittenBind) → OneOrMore (λ b. PrintableBind (see_bind b)) (all_of bs) → Told (spell_binds bs)
+binds_told : (bs : written.OneOrMore WrittenBind) → SomeAndAll (λ b. PrintableBind (see_bind b)) (all_of bs) → Told (spell_binds bs)
 binds_told bs h = a_mark marks.OpenRound (before (parted marks.Comma spell_bind (λ b. PrintableBind (see_bind b)) bind_told bs h) (a_mark marks.CloseRound nothing))
 
 -- a kind and its bindings
@@ -78,7 +78,7 @@ part_told (subtask inputs output) h =
     a_mark marks.OpenSquare (before (paths_told inputs h.0) (a_mark marks.Arrow (before (path_told output h.1) (a_mark marks.CloseSquare nothing))))
 
 -- parts joined by commas
-parts_told : (ps : written.OneOrMore WrittenPart) → OneOrMore (λ p. PrintablePart (see_part p)) (all_of ps) → Told (spell_parts ps)
+parts_told : (ps : written.OneOrMore WrittenPart) → SomeAndAll (λ p. PrintablePart (see_part p)) (all_of ps) → Told (spell_parts ps)
 parts_told ps h = parted marks.Comma spell_part (λ p. PrintablePart (see_part p)) part_told ps h
 
 -- a body, where there is one
@@ -126,7 +126,7 @@ given_told : (g : WrittenGiven) → PrintableGiven (see_given g) → Told (spell
 given_told g h = before (path_told g.path h.0) (value_told g.value)
 
 -- what is given
-givens_told : (gs : written.OneOrMore WrittenGiven) → OneOrMore (λ g. PrintableGiven (see_given g)) (all_of gs) → Told (spell_givens gs)
+givens_told : (gs : written.OneOrMore WrittenGiven) → SomeAndAll (λ g. PrintableGiven (see_given g)) (all_of gs) → Told (spell_givens gs)
 givens_told gs h = a_word words.Given (before (parted marks.Comma spell_given (λ g. PrintableGiven (see_given g)) given_told gs h) semicolon)
 
 -- a compute statement

@@ -20,7 +20,7 @@ use Rattle.utopist_parser.specs.ExprTree.{all_of, see_expr, see_chain, see_term,
 use Rattle.canonical_reading.specs.Piece.{Piece, piece_of}
 use Rattle.canonical_reading.proofs.SymbolPiece.{symbol_piece}
 use Rattle.canonical_reading.proofs.Likeness.{IsLike, AreLike}
-use Rattle.canonical_reading.specs.Printable.{OneOrMore, PrintableName, PrintableNames, PrintableTree, PrintableTrees}
+use Rattle.canonical_reading.specs.Printable.{SomeAndAll, PrintableName, PrintableNames, PrintableTree, PrintableTrees}
 
 -- ---- symbols that their pieces tell
 
@@ -98,7 +98,7 @@ many spell P h (x ∷ xs) a = before (h x a.0) (many spell P h xs a.1)
 
 -- part {SEPARATOR part}
 pub parted : {X : Type 0} (m : Mark) (spell : X → List Symbol) (P : X → Type 0) → ((x : X) → P x → Told (spell x))
-    → (xs : written.OneOrMore X) → OneOrMore P (all_of xs) → Told (separated m spell xs)
+    → (xs : written.OneOrMore X) → SomeAndAll P (all_of xs) → Told (separated m spell xs)
 parted m spell P h xs a = before (h xs.first a.0) (many (behind m spell) P (λ x b. a_mark m (h x b)) xs.more a.1)
 
 -- tokens with the pieces of such symbols have symbols like them

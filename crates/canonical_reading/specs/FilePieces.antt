@@ -8,29 +8,29 @@ use Rattle.utopist_syntax.specs.Named.{Named}
 use Rattle.utopist_syntax.specs.declared.compute.Compute.{Compute}
 use Rattle.utopist_syntax.specs.declared.compute.GivenPath.{GivenPath}
 use Rattle.utopist_syntax.specs.FileTree.{ConceptTree, FileTree}
-use Rattle.canonical_reading.specs.Piece.{Piece, word, mark, name, number, comma, signed_pieces}
+use Rattle.canonical_reading.specs.Piece.{Piece, word_piece, mark_piece, name_piece, number_piece, comma, signed_pieces}
 use Rattle.canonical_reading.specs.PathPieces.{names_pieces, path_pieces, paths_pieces}
 use Rattle.canonical_reading.specs.ItemPieces.{item_pieces}
 
 -- nothing, or "is" and the parents
 abbrev pub parents_pieces : List Named → List Piece
 parents_pieces [] = []
-parents_pieces (p ∷ more) = word words.Is ∷ names_pieces comma (p ∷ more)
+parents_pieces (p ∷ more) = word_piece words.Is ∷ names_pieces comma (p ∷ more)
 
 -- "concept" name, its parents, and its items in parentheses
 abbrev pub concept_pieces : ConceptTree → List Piece
 concept_pieces c =
-    (word words.Concept ∷ name c.name ∷ (parents_pieces c.parents ++ (mark marks.Colon ∷ mark marks.OpenRound ∷ [])))
-    ++ (flat_map item_pieces c.items ++ (mark marks.CloseRound ∷ mark marks.Semicolon ∷ []))
+    (word_piece words.Concept ∷ name_piece c.name ∷ (parents_pieces c.parents ++ (mark_piece marks.Colon ∷ mark_piece marks.OpenRound ∷ [])))
+    ++ (flat_map item_pieces c.items ++ (mark_piece marks.CloseRound ∷ mark_piece marks.Semicolon ∷ []))
 
 -- a whole number without its denominator
 abbrev pub fraction_pieces : Ratio → List Piece
-fraction_pieces x = signed_pieces x.num ++ (if x.den == 1 then [] else mark marks.Slash ∷ number (pos x.den) ∷ [])
+fraction_pieces x = signed_pieces x.num ++ (if x.den == 1 then [] else mark_piece marks.Slash ∷ number_piece (pos x.den) ∷ [])
 
 -- nothing, or "=" and the fraction
 abbrev pub value_pieces : Option Ratio → List Piece
 value_pieces None = []
-value_pieces (Some x) = mark marks.Equal ∷ fraction_pieces x
+value_pieces (Some x) = mark_piece marks.Equal ∷ fraction_pieces x
 
 -- a path, with its value if it has one
 abbrev pub given_pieces : GivenPath → List Piece
@@ -39,13 +39,13 @@ given_pieces g = path_pieces g.path ++ value_pieces g.value
 -- nothing, or "given" and what is given
 abbrev pub givens_pieces : List GivenPath → List Piece
 givens_pieces [] = []
-givens_pieces (g ∷ more) = word words.Given ∷ (join_by given_pieces comma (g ∷ more) ++ (mark marks.Semicolon ∷ []))
+givens_pieces (g ∷ more) = word_piece words.Given ∷ (join_by given_pieces comma (g ∷ more) ++ (mark_piece marks.Semicolon ∷ []))
 
 -- "compute" name, what is given, and what is to be found
 abbrev pub compute_pieces : Compute → List Piece
 compute_pieces c =
-    (word words.Compute ∷ name c.name ∷ mark marks.Colon ∷ mark marks.OpenRound ∷ [])
-    ++ (givens_pieces c.givens ++ (word words.Find ∷ (paths_pieces c.wants ++ (mark marks.CloseRound ∷ mark marks.Semicolon ∷ []))))
+    (word_piece words.Compute ∷ name_piece c.name ∷ mark_piece marks.Colon ∷ mark_piece marks.OpenRound ∷ [])
+    ++ (givens_pieces c.givens ++ (word_piece words.Find ∷ (paths_pieces c.wants ++ (mark_piece marks.CloseRound ∷ mark_piece marks.Semicolon ∷ []))))
 
 -- the concepts, and then the compute statements
 abbrev pub file_pieces : FileTree → List Piece

@@ -26,33 +26,33 @@ abbrev pub HasPieces : List ℕ → List Piece → Type 0
 HasPieces text ps = (ts : List Tok) × Reads text ts × (map piece_of ts ≡ ps)
 
 -- a keyword
-abbrev pub word : Word → Piece
-word w = record { kind = kinds.Word w; text = word_text w }
+abbrev pub word_piece : Word → Piece
+word_piece w = record { kind = kinds.Word w; text = word_text w }
 
 -- a mark
-abbrev pub mark : Mark → Piece
-mark m = record { kind = kinds.Mark m; text = mark_text m }
+abbrev pub mark_piece : Mark → Piece
+mark_piece m = record { kind = kinds.Mark m; text = mark_text m }
 
 -- a name
-abbrev pub name : Named → Piece
-name n = record { kind = kinds.Name; text = chars n.text }
+abbrev pub name_piece : Named → Piece
+name_piece n = record { kind = kinds.Name; text = chars n.text }
 
 -- a number
-abbrev pub number : ℤ → Piece
-number z = record { kind = kinds.Number z; text = signed_decimal z }
+abbrev pub number_piece : ℤ → Piece
+number_piece z = record { kind = kinds.Number z; text = signed_decimal z }
 
 -- $ and a number
-abbrev pub sub : ℤ → Piece
-sub z = record { kind = kinds.Sub z; text = 36 ∷ signed_decimal z }
+abbrev pub sub_piece : ℤ → Piece
+sub_piece z = record { kind = kinds.Sub z; text = 36 ∷ signed_decimal z }
 
 -- a comma between two of a list
 abbrev pub comma : List Piece
-comma = mark marks.Comma ∷ []
+comma = mark_piece marks.Comma ∷ []
 
 -- a number of any sign: the minus is a token of its own
 abbrev pub signed_pieces : ℤ → List Piece
-signed_pieces (pos n) = number (pos n) ∷ []
-signed_pieces (negsuc n) = mark marks.Minus ∷ number (pos (suc n)) ∷ []
+signed_pieces (pos n) = number_piece (pos n) ∷ []
+signed_pieces (negsuc n) = mark_piece marks.Minus ∷ number_piece (pos (suc n)) ∷ []
 
 -- pieces that stand only where they are needed
 abbrev pub if_needed_pieces : Bool → List Piece → List Piece

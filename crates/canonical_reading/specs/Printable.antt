@@ -6,7 +6,7 @@ use Rattle.priz_frac.specs.Ratio.{Ratio}
 use Rattle.utopist_lexer.specs.declared.token.Kind.TheVariants as kinds
 use Rattle.utopist_lexer.specs.Lexical.{Spells, max_name, max_number}
 use Rattle.utopist_syntax.specs.Named.{Named}
-use Rattle.utopist_syntax.specs.Tree.{Tree, Trees, num, path, neg, op, choice, loop, call, none, more}
+use Rattle.utopist_syntax.specs.ExprTree.{ExprTree, ExprTrees, num, path, neg, op, choice, loop, call, none, more}
 use Rattle.utopist_syntax.specs.FileTree.{ItemTree, ConceptTree, FileTree, var, eq, rel}
 use Rattle.utopist_syntax.specs.declared.path.Path.{Path}
 use Rattle.utopist_syntax.specs.declared.item.VarKind.{VarKind}
@@ -18,9 +18,9 @@ use Rattle.utopist_syntax.specs.declared.compute.Compute.{Compute}
 use Rattle.utopist_syntax.specs.declared.compute.GivenPath.{GivenPath}
 
 -- one or more, and P holds of each
-abbrev pub OneOrMore : {X : Type 0} → (X → Type 0) → List X → Type 0
-OneOrMore P [] = ⊥
-OneOrMore P (x ∷ xs) = P x × AllByRecursion P xs
+abbrev pub SomeAndAll : {X : Type 0} → (X → Type 0) → List X → Type 0
+SomeAndAll P [] = ⊥
+SomeAndAll P (x ∷ xs) = P x × AllByRecursion P xs
 
 -- text that spells a name and no keyword, and is not too long
 pub record PrintableName (n : Named) : Type 0 where
@@ -30,7 +30,7 @@ pub record PrintableName (n : Named) : Type 0 where
 
 -- one or more names
 abbrev pub PrintableNames : List Named → Type 0
-PrintableNames = OneOrMore PrintableName
+PrintableNames = SomeAndAll PrintableName
 
 -- one or more names
 abbrev pub PrintablePath : Path → Type 0
@@ -43,7 +43,7 @@ PrintableNumber (negsuc n) = ⊥
 
 abbrev mutual
   -- the names and numbers of an expression
-  pub PrintableTree : Tree → Type 0
+  pub PrintableTree : ExprTree → Type 0
   PrintableTree (num n) = PrintableNumber n
   PrintableTree (path names) = PrintableNames names
   PrintableTree (neg a) = PrintableTree a
@@ -53,7 +53,7 @@ abbrev mutual
   PrintableTree (call k place args) = PrintableNumber k × PrintableTrees args
 
   -- those of arguments, if there are any
-  pub PrintableTrees : Trees → Type 0
+  pub PrintableTrees : ExprTrees → Type 0
   PrintableTrees none = Unit {0}
   PrintableTrees (more a rest) = PrintableTree a × PrintableTrees rest
 
@@ -72,7 +72,7 @@ PrintablePart (Input p) = PrintablePath p
 PrintablePart (Subtask inputs output) = AllByRecursion PrintablePath inputs × PrintablePath output
 
 -- the expression, if there is one
-abbrev pub PrintableBody : Option Tree → Type 0
+abbrev pub PrintableBody : Option ExprTree → Type 0
 PrintableBody None = Unit {0}
 PrintableBody (Some e) = PrintableTree e
 
@@ -106,7 +106,7 @@ PrintableGiven g = PrintablePath g.path × PrintableValue g.value
 pub record PrintableCompute (c : Compute) : Type 0 where
   pub name : PrintableName c.name
   pub givens : AllByRecursion PrintableGiven c.givens
-  pub wants : OneOrMore PrintablePath c.wants
+  pub wants : SomeAndAll PrintablePath c.wants
 
 -- each concept and each compute statement
 pub record Printable (f : FileTree) : Type 0 where

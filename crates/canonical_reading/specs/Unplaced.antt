@@ -2,7 +2,7 @@
 use Rattle.std.specs.Prelude.{map, Option, Some, None}
 use Rattle.utopist_lexer.specs.Places.{first_place}
 use Rattle.utopist_syntax.specs.Named.{Named}
-use Rattle.utopist_syntax.specs.Tree.{Tree, Trees, num, path, neg, op, choice, loop, call, none, more}
+use Rattle.utopist_syntax.specs.ExprTree.{ExprTree, ExprTrees, num, path, neg, op, choice, loop, call, none, more}
 use Rattle.utopist_syntax.specs.FileTree as tree
 use Rattle.utopist_syntax.specs.FileTree.{ItemTree, ConceptTree, FileTree}
 use Rattle.utopist_syntax.specs.declared.path.Path.{Path}
@@ -20,7 +20,7 @@ unplaced_name n = record { text = n.text; place = first_place }
 
 abbrev mutual
   -- an expression
-  pub unplaced_tree : Tree → Tree
+  pub unplaced_tree : ExprTree → ExprTree
   unplaced_tree (num n) = num n
   unplaced_tree (path names) = path (map unplaced_name names)
   unplaced_tree (neg a) = neg (unplaced_tree a)
@@ -30,7 +30,7 @@ abbrev mutual
   unplaced_tree (call k place args) = call k first_place (unplaced_trees args)
 
   -- the arguments of a call
-  pub unplaced_trees : Trees → Trees
+  pub unplaced_trees : ExprTrees → ExprTrees
   unplaced_trees none = none
   unplaced_trees (more a rest) = more (unplaced_tree a) (unplaced_trees rest)
 
@@ -53,7 +53,7 @@ unplaced_part (Input p) = Input (unplaced_path p)
 unplaced_part (Subtask inputs output) = Subtask (map unplaced_path inputs) (unplaced_path output)
 
 -- a body, where there is one
-abbrev pub unplaced_body : Option Tree → Option Tree
+abbrev pub unplaced_body : Option ExprTree → Option ExprTree
 unplaced_body None = None
 unplaced_body (Some e) = Some (unplaced_tree e)
 

@@ -11,14 +11,14 @@ abbrev mutual
   -- ["(" sub {"," sub} ")"], where a sub is "known" or "{" {step} "}"
   pub subs_text : Subs → List ℕ
   subs_text no_more = []
-  subs_text (known more) = codes "(known" ++ more_text more
-  subs_text (block b more) = (codes "({" ++ (steps_text b ++ codes "}")) ++ more_text more
+  subs_text (known more) = codes "(known" ++ more_subs_text more
+  subs_text (block b more) = (codes "({" ++ (steps_text b ++ codes "}")) ++ more_subs_text more
 
   -- {"," sub} ")"
-  pub more_text : Subs → List ℕ
-  more_text no_more = codes ")"
-  more_text (known more) = codes ",known" ++ more_text more
-  more_text (block b more) = (codes ",{" ++ (steps_text b ++ codes "}")) ++ more_text more
+  pub more_subs_text : Subs → List ℕ
+  more_subs_text no_more = codes ")"
+  more_subs_text (known more) = codes ",known" ++ more_subs_text more
+  more_subs_text (block b more) = (codes ",{" ++ (steps_text b ++ codes "}")) ++ more_subs_text more
 
 -- "{" {step} "}"
 abbrev pub block_text : Steps → List ℕ

@@ -6,9 +6,9 @@ use Rattle.priz_base.proofs.Members.{contains_here, contains_there}
 use Rattle.body_lang.specs.Verdicts.{Verdict, fault_unless}
 use Rattle.body_lang.proofs.Verdicts.{first_passes, second_passes, both_pass, test_passes}
 use Rattle.utopist_syntax.specs.Named.{Named}
-use Rattle.utopist_syntax.specs.Tree.{Tree, num, path, neg, op, choice, loop, call}
+use Rattle.utopist_syntax.specs.ExprTree.{ExprTree, num, path, neg, op, choice, loop, call}
 use Rattle.utopist_syntax.specs.View.{tree_of}
-use Rattle.utopist_syntax.specs.FileTree.{body_tree}
+use Rattle.utopist_syntax.specs.FileTree.{body_expr_tree}
 use Rattle.utopist_syntax.specs.declared.expr.Expr.{Expr}
 use Rattle.concept_unfold.specs.Paths.{first_of}
 use Rattle.concept_unfold.specs.declared.fault.Rule.{Rule}
@@ -29,10 +29,10 @@ no_loops : loop_names loops.Outermost ≡ []
 no_loops = ap loop_names (sym loops.rolls-Outermost) ∙ fold-roll-Loops (List (List ℕ)) name_before Loops-F.Outermost
 
 -- a fault that was found
-pub body_fails : (names inputs : List (List ℕ)) (b : Option Expr) (e : Expr) (f : ModelFault) → b ≡ Some e → Err f ≡ expr_fault (record { taken = loop_names loops.Outermost ++ names; inputs = inputs; rounds = loop_names loops.Outermost }) (tree_of e) → FirstFailing (body_rows names inputs (body_tree b)) f
+pub body_fails : (names inputs : List (List ℕ)) (b : Option Expr) (e : Expr) (f : ModelFault) → b ≡ Some e → Err f ≡ expr_fault (record { taken = loop_names loops.Outermost ++ names; inputs = inputs; rounds = loop_names loops.Outermost }) (tree_of e) → FirstFailing (body_rows names inputs (body_expr_tree b)) f
 body_fails names inputs b e f is found =
     let row : Row = record { place = f.place; rule = f.rule; check = never } in
-    subst (λ (x : Option Expr). FirstFailing (body_rows names inputs (body_tree x)) f) (sym is) (subst (λ (v : Verdict ModelFault). FirstFailing (fault_rows v) f) (found ∙ ap (λ ls. expr_fault (record { taken = ls ++ names; inputs = inputs; rounds = ls }) (tree_of e)) no_loops) (one_fails row f (λ h. h) refl refl))
+    subst (λ (x : Option Expr). FirstFailing (body_rows names inputs (body_expr_tree x)) f) (sym is) (subst (λ (v : Verdict ModelFault). FirstFailing (fault_rows v) f) (found ∙ ap (λ ls. expr_fault (record { taken = ls ++ names; inputs = inputs; rounds = ls }) (tree_of e)) no_loops) (one_fails row f (λ h. h) refl refl))
 
 no_fault : (v : Verdict ModelFault) → AllHold (fault_rows v) → v ≡ Ok tt
 no_fault (Ok u) h = refl
@@ -42,7 +42,7 @@ no_rows : (v : Verdict ModelFault) → v ≡ Ok tt → AllHold (fault_rows v)
 no_rows v e = subst (λ (x : Verdict ModelFault). AllHold (fault_rows x)) (sym e) none_hold
 
 -- a body whose rules hold
-pub faultless : (names inputs : List (List ℕ)) (body : Option Tree) → AllHold (body_rows names inputs body) → IsFaultless inputs body
+pub faultless : (names inputs : List (List ℕ)) (body : Option ExprTree) → AllHold (body_rows names inputs body) → IsFaultless inputs body
 faultless names inputs None h = tt
 faultless names inputs (Some e) h = (names, no_fault (expr_fault (record { taken = names; inputs = inputs; rounds = [] }) e) h)
 
@@ -51,7 +51,7 @@ new_behind_fewer name r taken fewer sub h =
     let new = false_of (is_among name.text fewer) (λ t. let c = among name.text taken (All-contains (Contains taken) fewer name.text sub (listed name.text fewer t)) in let p = test_passes (not (is_among name.text taken)) (broken_at name r) h in let q : not true ≡ true = subst (λ b. not b ≡ true) c p in cc) in
     ap (λ b. fault_unless (not b) (broken_at name r)) new
 
-abbrev fault_at : List (List ℕ) → List (List ℕ) → List (List ℕ) → Tree → Verdict ModelFault
+abbrev fault_at : List (List ℕ) → List (List ℕ) → List (List ℕ) → ExprTree → Verdict ModelFault
 fault_at inputs rounds taken t = expr_fault (record { taken = taken; inputs = inputs; rounds = rounds }) t
 
 readable_alike : (inputs rounds taken fewer : List (List ℕ)) (names : List Named) → is_readable (record { taken = fewer; inputs = inputs; rounds = rounds }) names ≡ is_readable (record { taken = taken; inputs = inputs; rounds = rounds }) names
@@ -64,7 +64,7 @@ one_more taken fewer name sub =
     All-cons (Contains (name ∷ taken)) name fewer (contains_here name taken) (All-weaker (Contains taken) (Contains (name ∷ taken)) (λ x c. contains_there name taken x c) fewer sub)
 
 -- an expression without a fault has none where fewer names are taken
-expr_behind_fewer : (inputs rounds taken fewer : List (List ℕ)) (t : Tree) → All (Contains taken) fewer → fault_at inputs rounds taken t ≡ Ok tt → fault_at inputs rounds fewer t ≡ Ok tt
+expr_behind_fewer : (inputs rounds taken fewer : List (List ℕ)) (t : ExprTree) → All (Contains taken) fewer → fault_at inputs rounds taken t ≡ Ok tt → fault_at inputs rounds fewer t ≡ Ok tt
 expr_behind_fewer inputs rounds taken fewer (num n) sub h = refl
 expr_behind_fewer inputs rounds taken fewer (path names) sub h =
     ap (λ b. fault_unless b (broken_at (first_of names) rule.UnknownPath)) (readable_alike inputs rounds taken fewer names) ∙ h
@@ -88,7 +88,7 @@ expr_behind_fewer inputs rounds taken fewer (loop kind n a b e) sub h =
 expr_behind_fewer inputs rounds taken fewer (call k place args) sub h = refl
 
 -- a body follows the rules behind fewer names too
-pub body_behind_fewer : (names fewer inputs : List (List ℕ)) (body : Option Tree) → All (Contains names) fewer → AllHold (body_rows names inputs body) → AllHold (body_rows fewer inputs body)
+pub body_behind_fewer : (names fewer inputs : List (List ℕ)) (body : Option ExprTree) → All (Contains names) fewer → AllHold (body_rows names inputs body) → AllHold (body_rows fewer inputs body)
 body_behind_fewer names fewer inputs None sub h = none_hold
 body_behind_fewer names fewer inputs (Some e) sub h =
     no_rows (fault_at inputs [] fewer e) (expr_behind_fewer inputs [] names fewer e sub (no_fault (fault_at inputs [] names e) h))

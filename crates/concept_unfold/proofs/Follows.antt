@@ -17,8 +17,8 @@ use Rattle.concept_unfold.specs.Declarations.{all_variables, items_of}
 use Rattle.concept_unfold.specs.Rows.{Row, Holds, AllHold}
 use Rattle.concept_unfold.specs.ConceptRules.{items_rows, concept_rows, concepts_rows, compute_rows, computes_rows, concept_rules}
 use Rattle.concept_unfold.specs.declared.fault.Limit.TheVariants as limit
-use Rattle.concept_unfold.specs.UnfoldingRules.{size_of, statements_in, limit_row, limit_rows}
-use Rattle.concept_unfold.specs.Unfolded.{AreKnown, number, given_of, statements_of, problem_from}
+use Rattle.concept_unfold.specs.UnfoldingRules.{item_size, item_statements, limit_row, limit_rows}
+use Rattle.concept_unfold.specs.Unfolded.{AreKnown, var_number, given_of, statements_of, problem_from}
 use Rattle.concept_unfold.proofs.Passing.{none_hold, first_holds}
 use Rattle.concept_unfold.proofs.Progress.{known_from_rows}
 use Rattle.concept_unfold.proofs.Stages.{compute_count, compute_name, given_rows, want_rows, concept_count, concept_name, path_count, variable_count, size_count, statement_count}
@@ -96,17 +96,17 @@ module _ (w : Compute) (items : List ItemTree) (h : AllHold (limit_rows w items)
   few_variables =
       first_holds (limit_row w limit.Variables max_variables (length (all_variables items))) (size_count w items ++ statement_count w items) after_paths
 
-  pub few_nodes : sum_by size_of items ≤ max_size
+  pub few_nodes : sum_by item_size items ≤ max_size
   few_nodes =
-      first_holds (limit_row w limit.Size max_size (sum_by size_of items)) (statement_count w items)
+      first_holds (limit_row w limit.Size max_size (sum_by item_size items)) (statement_count w items)
       (right_hold (variable_count w items) (size_count w items ++ statement_count w items) after_paths)
 
-  pub few_statements : sum_by statements_in items ≤ max_statements
+  pub few_statements : sum_by item_statements items ≤ max_statements
   few_statements =
       let after = right_hold (variable_count w items) (size_count w items ++ statement_count w items) after_paths in
-      first_holds (limit_row w limit.Statements max_statements (sum_by statements_in items)) [] (right_hold (size_count w items) (statement_count w items) after)
+      first_holds (limit_row w limit.Statements max_statements (sum_by item_statements items)) [] (right_hold (size_count w items) (statement_count w items) after)
 
 -- the problem with its items, and then with its goal, is that of the items and the compute statement
-pub problem_is : (w : Compute) (items : List ItemTree) (p q : Task) → p ≡ record empty_task { names = all_variables items; statements = flat_map (statements_of (all_variables items)) items } → q ≡ record p { givens = map (given_of p.names) w.givens; wants = map (number p.names) w.wants } → q ≡ problem_from items w
+pub problem_is : (w : Compute) (items : List ItemTree) (p q : Task) → p ≡ record empty_task { names = all_variables items; statements = flat_map (statements_of (all_variables items)) items } → q ≡ record p { givens = map (given_of p.names) w.givens; wants = map (var_number p.names) w.wants } → q ≡ problem_from items w
 problem_is w items p q same e =
-    e ∙ ap (λ (r : Task). record r { givens = map (given_of r.names) w.givens; wants = map (number r.names) w.wants }) same
+    e ∙ ap (λ (r : Task). record r { givens = map (given_of r.names) w.givens; wants = map (var_number r.names) w.wants }) same

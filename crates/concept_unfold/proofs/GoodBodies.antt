@@ -20,14 +20,14 @@ use Rattle.statement_set.specs.declared.statement.Statement.{Statement}
 use Rattle.statement_set.specs.declared.subtask.Subtask.{Subtask}
 use Rattle.statement_set.specs.Problem.{IsBodyOver}
 use Rattle.utopist_syntax.specs.Named.{Named}
-use Rattle.utopist_syntax.specs.Tree.{Tree, num, path, neg, op, choice, loop, call}
+use Rattle.utopist_syntax.specs.ExprTree.{ExprTree, num, path, neg, op, choice, loop, call}
 use Rattle.utopist_syntax.specs.declared.path.Path.{Path}
 use Rattle.utopist_syntax.specs.declared.item.Part.{Part}
 use Rattle.concept_unfold.specs.declared.fault.Rule.TheVariants as rule
 use Rattle.concept_unfold.specs.Built.{IsBuiltExpr, IsBuiltBody}
 use Rattle.concept_unfold.specs.Paths.{first_of, first_name, inputs_of, input_names}
 use Rattle.concept_unfold.specs.BodyFault.{broken_at, is_among, is_readable, expr_fault, IsFaultless}
-use Rattle.concept_unfold.specs.Bodies.{loop_number, loop_or_input, named, loop_of, expr_body, body_over}
+use Rattle.concept_unfold.specs.Bodies.{loop_number, loop_or_input, named, loop_body, expr_body, body_over}
 use Rattle.concept_unfold.proofs.Places.{stands_there}
 use Rattle.concept_unfold.proofs.Among.{listed}
 
@@ -78,12 +78,12 @@ path_passes inputs rounds taken [] t = absurd (cc)
 path_passes inputs rounds taken (n ∷ []) t = name_at inputs rounds n.text (loop_number n.text rounds) refl t
 path_passes inputs rounds taken (n ∷ m ∷ ns) t = absurd (cc)
 
-loop_passes : (n loops : ℕ) (kind : LoopKind) (a b e : Body) → passes_check n loops a → passes_check n loops b → passes_check n (suc loops) e → passes_check n loops (loop_of kind a b e)
+loop_passes : (n loops : ℕ) (kind : LoopKind) (a b e : Body) → passes_check n loops a → passes_check n loops b → passes_check n (suc loops) e → passes_check n loops (loop_body kind a b e)
 loop_passes n loops Sum a b e p q r = ap (check.checked n [] loops) (trees.total_tree a b e) ∙ both_pass _ _ p (both_pass _ _ q r)
 loop_passes n loops Prod a b e p q r = ap (check.checked n [] loops) (trees.product_tree a b e) ∙ both_pass _ _ p (both_pass _ _ q r)
 loop_passes n loops Iter a b e p q r = ap (check.checked n [] loops) (trees.iterate_tree a b e) ∙ both_pass _ _ p (both_pass _ _ q r)
 
-expr_passes : (inputs rounds taken : List (List ℕ)) (t : Tree) → IsBuiltExpr t → expr_fault (record { taken = taken; inputs = inputs; rounds = rounds }) t ≡ Ok tt → passes_check (length inputs) (length rounds) (expr_body inputs rounds t)
+expr_passes : (inputs rounds taken : List (List ℕ)) (t : ExprTree) → IsBuiltExpr t → expr_fault (record { taken = taken; inputs = inputs; rounds = rounds }) t ≡ Ok tt → passes_check (length inputs) (length rounds) (expr_body inputs rounds t)
 expr_passes inputs rounds taken (num n) built h = ap (check.checked (length inputs) [] (length rounds)) (trees.num_tree (whole n))
 expr_passes inputs rounds taken (path names) built h = path_passes inputs rounds taken names (test_passes _ (broken_at (first_of names) rule.UnknownPath) h)
 expr_passes inputs rounds taken (neg a) built h =
@@ -113,7 +113,7 @@ fits_statement s b none is h =
     (subst (λ (o : Option Body). IfSome o (λ x. check.checked (length s.inputs) [] 0 (body_tree x) ≡ Ok tt)) (sym is) h)
 
 -- the body of a statement with so many inputs and no subtask
-pub body_passes : (parts : List Part) (body : Option Tree) (n : ℕ) → IsBuiltBody body → IsFaultless (input_names parts) body → n ≡ length (inputs_of parts) → IfSome (body_over (input_names parts) body) (λ b. check.checked n [] 0 (body_tree b) ≡ Ok tt)
+pub body_passes : (parts : List Part) (body : Option ExprTree) (n : ℕ) → IsBuiltBody body → IsFaultless (input_names parts) body → n ≡ length (inputs_of parts) → IfSome (body_over (input_names parts) body) (λ b. check.checked n [] 0 (body_tree b) ≡ Ok tt)
 body_passes parts None n built good is = tt
 body_passes parts (Some e) n built good is =
     let inputs = input_names parts in

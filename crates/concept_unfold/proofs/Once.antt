@@ -14,15 +14,15 @@ use Rattle.statement_set.specs.declared.given.Given.{Given}
 use Rattle.statement_set.specs.Problem.{Task}
 use Rattle.concept_unfold.specs.Paths.{first_name, given_paths, given_names, IsOneOf}
 use Rattle.concept_unfold.specs.Declarations.{texts}
-use Rattle.concept_unfold.specs.Unfolded.{AreKnown, number, given_of}
+use Rattle.concept_unfold.specs.Unfolded.{AreKnown, var_number, given_of}
 use Rattle.statement_set.proofs.Lists.{all_of_map}
 use Rattle.utopist_syntax.specs.Named.{Named}
 use Rattle.concept_unfold.proofs.Places.{same_name}
 
 -- the variables of what is given
-given_numbers_are : (vars : List (List ℕ)) (gs : List GivenPath) → map (λ (g : Given). g.var) (map (given_of vars) gs) ≡ map (number vars) (given_paths gs)
+given_numbers_are : (vars : List (List ℕ)) (gs : List GivenPath) → map (λ (g : Given). g.var) (map (given_of vars) gs) ≡ map (var_number vars) (given_paths gs)
 given_numbers_are vars [] = refl
-given_numbers_are vars (g ∷ gs) = ap (λ ws. number vars g.path ∷ ws) (given_numbers_are vars gs)
+given_numbers_are vars (g ∷ gs) = ap (λ ws. var_number vars g.path ∷ ws) (given_numbers_are vars gs)
 
 -- one more given, and nothing else
 pub given_step : (start p q : Task) (g : Given) → p ≡ record start { givens = p.givens } → q ≡ record p { givens = p.givens ++ g ∷ [] } → q ≡ record start { givens = q.givens }
@@ -44,22 +44,22 @@ pub seen_more : (seen new : List ℕ) (old : List Given) (made : Given) → Adds
 seen_more seen new old made adds same n =
     let e = map-append (λ (g : Given). g.var) old (made ∷ []) in rw e (same_members seen new (map (λ (g : Given). g.var) old) made.var adds same n)
 
-named_before : (vars : List (List ℕ)) (gs : List GivenPath) (p : Path) → AreKnown vars (given_paths gs) → IsOneOf vars p → Contains (map (number vars) (given_paths gs)) (number vars p) → Contains (texts (given_names gs)) (first_name p).text
-named_before vars [] p known here c = absurd (contains_none (number vars p) c)
+named_before : (vars : List (List ℕ)) (gs : List GivenPath) (p : Path) → AreKnown vars (given_paths gs) → IsOneOf vars p → Contains (map (var_number vars) (given_paths gs)) (var_number vars p) → Contains (texts (given_names gs)) (first_name p).text
+named_before vars [] p known here c = absurd (contains_none (var_number vars p) c)
 named_before vars (g ∷ gs) p known here c =
     let names = texts (given_names gs) in
     ⊎_elim
     (λ e. subst (Contains ((first_name g.path).text ∷ names)) (same_name vars g.path p (All-head (IsOneOf vars) g.path (given_paths gs) known) here e) (contains_here (first_name g.path).text names))
     (λ h. contains_there (first_name g.path).text names (first_name p).text (named_before vars gs p (All-tail (IsOneOf vars) g.path (given_paths gs) known) here h))
-    (contains_cases (number vars g.path) (map (number vars) (given_paths gs)) (number vars p) c)
+    (contains_cases (var_number vars g.path) (map (var_number vars) (given_paths gs)) (var_number vars p) c)
 
-numbered_before : (vars : List (List ℕ)) (gs : List GivenPath) (p : Path) → Contains (texts (given_names gs)) (first_name p).text → Contains (map (number vars) (given_paths gs)) (number vars p)
+numbered_before : (vars : List (List ℕ)) (gs : List GivenPath) (p : Path) → Contains (texts (given_names gs)) (first_name p).text → Contains (map (var_number vars) (given_paths gs)) (var_number vars p)
 numbered_before vars [] p c = absurd (contains_none (first_name p).text c)
 numbered_before vars (g ∷ gs) p c =
-    let numbers = map (number vars) (given_paths gs) in
+    let numbers = map (var_number vars) (given_paths gs) in
     ⊎_elim
-    (λ e. subst (Contains (number vars g.path ∷ numbers)) (ap (λ t. position_or_len (bytes_eq t) vars) e) (contains_here (number vars g.path) numbers))
-    (λ h. contains_there (number vars g.path) numbers (number vars p) (numbered_before vars gs p h))
+    (λ e. subst (Contains (var_number vars g.path ∷ numbers)) (ap (λ t. position_or_len (bytes_eq t) vars) e) (contains_here (var_number vars g.path) numbers))
+    (λ h. contains_there (var_number vars g.path) numbers (var_number vars p) (numbered_before vars gs p h))
     (contains_cases (first_name g.path).text (texts (given_names gs)) (first_name p).text c)
 
 -- each of the known givens is one of the variables
@@ -70,19 +70,19 @@ given_known_at vars gs i g lt is known =
 
 module _ (vars : List (List ℕ)) (gs : List GivenPath) (i : ℕ) (g : GivenPath) (old : List Given) (v : ℕ) where
   -- a variable that was given was given by its name
-  pub given_before : i < length gs → g ≡ get_or gs i g → AreKnown vars (given_paths gs) → old ≡ map (given_of vars) (take i gs) → v ≡ number vars g.path → Contains (map (λ (g : Given). g.var) old) v → Contains (texts (given_names (take i gs))) (first_name g.path).text
+  pub given_before : i < length gs → g ≡ get_or gs i g → AreKnown vars (given_paths gs) → old ≡ map (given_of vars) (take i gs) → v ≡ var_number vars g.path → Contains (map (λ (g : Given). g.var) old) v → Contains (texts (given_names (take i gs))) (first_name g.path).text
   given_before lt is known before same c =
       let numbers = ap (map (λ (g : Given). g.var)) before ∙ given_numbers_are vars (take i gs) in
       let at : GivenPath → Type 0 = λ h. IsOneOf vars h.path in
       let earlier = All-map (IsOneOf vars) (λ (h : GivenPath). h.path) (take i gs) (All-take at i gs (all_of_map (IsOneOf vars) (λ (h : GivenPath). h.path) gs known)) in
       named_before vars (take i gs) g.path earlier (given_known_at vars gs i g lt is known)
-      (subst (λ (xs : List ℕ). Contains xs (number vars g.path)) numbers (subst (Contains (map (λ (g : Given). g.var) old)) same c))
+      (subst (λ (xs : List ℕ). Contains xs (var_number vars g.path)) numbers (subst (Contains (map (λ (g : Given). g.var) old)) same c))
 
   -- the name of a variable that was not given is new
-  pub not_given_before : old ≡ map (given_of vars) (take i gs) → v ≡ number vars g.path → ¬ Contains (map (λ (g : Given). g.var) old) v → ¬ Contains (texts (given_names (take i gs))) (first_name g.path).text
+  pub not_given_before : old ≡ map (given_of vars) (take i gs) → v ≡ var_number vars g.path → ¬ Contains (map (λ (g : Given). g.var) old) v → ¬ Contains (texts (given_names (take i gs))) (first_name g.path).text
   not_given_before before same fresh = λ c.
       let numbers = ap (map (λ (g : Given). g.var)) before ∙ given_numbers_are vars (take i gs) in
-      fresh (subst (Contains (map (λ (g : Given). g.var) old)) (sym same) (subst (λ (xs : List ℕ). Contains xs (number vars g.path)) (sym numbers) (numbered_before vars (take i gs) g.path c)))
+      fresh (subst (Contains (map (λ (g : Given). g.var) old)) (sym same) (subst (λ (xs : List ℕ). Contains xs (var_number vars g.path)) (sym numbers) (numbered_before vars (take i gs) g.path c)))
 
 -- at first nothing is given
 pub nothing_seen : (seen : List ℕ) (old : List Given) (n : ℕ) → seen ≡ [] → old ≡ [] → Contains seen n ↔ Contains (map (λ (g : Given). g.var) old) n

@@ -11,7 +11,7 @@ use Rattle.priz_base.proofs.Members.{contains_cases, contains_none}
 use Rattle.utopist_syntax.specs.declared.path.Path.{Path}
 use Rattle.utopist_syntax.specs.Named.{Named}
 use Rattle.concept_unfold.specs.Paths.{first_of, first_name, IsOneOf}
-use Rattle.concept_unfold.specs.Unfolded.{AreKnown, number}
+use Rattle.concept_unfold.specs.Unfolded.{AreKnown, var_number}
 
 pub false_of : (b : Bool) → (b ≡ true → ⊥) → b ≡ false
 false_of true h = absurd (h refl)
@@ -49,18 +49,18 @@ stands_there [] n c = absurd (contains_none n c)
 stands_there (x ∷ xs) n c = found_at x xs n (bytes_eq n x) refl c (λ h. stands_there xs n h)
 
 -- the number of a variable is below their count
-number_below : (vars : List (List ℕ)) (p : Path) → IsOneOf vars p → number vars p < length vars
-number_below vars p k = some_below vars (number vars p) (first_name p).text (stands_there vars (first_name p).text k.listed)
+number_below : (vars : List (List ℕ)) (p : Path) → IsOneOf vars p → var_number vars p < length vars
+number_below vars p k = some_below vars (var_number vars p) (first_name p).text (stands_there vars (first_name p).text k.listed)
 
-pub numbers_below : (vars : List (List ℕ)) (ps : List Path) → AreKnown vars ps → All (λ v. v < length vars) (map (number vars) ps)
+pub numbers_below : (vars : List (List ℕ)) (ps : List Path) → AreKnown vars ps → All (λ v. v < length vars) (map (var_number vars) ps)
 numbers_below vars [] k = All-nil (λ v. v < length vars)
 numbers_below vars (p ∷ ps) k =
-    All-cons (λ v. v < length vars) (number vars p) (map (number vars) ps) (number_below vars p (All-head (IsOneOf vars) p ps k)) (numbers_below vars ps (All-tail (IsOneOf vars) p ps k))
+    All-cons (λ v. v < length vars) (var_number vars p) (map (var_number vars) ps) (number_below vars p (All-head (IsOneOf vars) p ps k)) (numbers_below vars ps (All-tail (IsOneOf vars) p ps k))
 
 -- two variables of one number have one name
-pub same_name : (vars : List (List ℕ)) (a b : Path) → IsOneOf vars a → IsOneOf vars b → number vars a ≡ number vars b → (first_name a).text ≡ (first_name b).text
+pub same_name : (vars : List (List ℕ)) (a b : Path) → IsOneOf vars a → IsOneOf vars b → var_number vars a ≡ var_number vars b → (first_name a).text ≡ (first_name b).text
 same_name vars a b ka kb e =
-    let there : slice_get vars (number vars a) ≡ Some (first_name b).text = rw e (stands_there vars (first_name b).text kb.listed) in
+    let there : slice_get vars (var_number vars a) ≡ Some (first_name b).text = rw e (stands_there vars (first_name b).text kb.listed) in
     let here = stands_there vars (first_name a).text ka.listed in cc
 
 stable_at : (x : List ℕ) (xs more : List (List ℕ)) (n : List ℕ) (b : Bool) → bytes_eq n x ≡ b → Contains (x ∷ xs) n → (Contains xs n → position_or_len (bytes_eq n) (xs ++ more) ≡ position_or_len (bytes_eq n) xs) → position_or_len (bytes_eq n) (x ∷ (xs ++ more)) ≡ position_or_len (bytes_eq n) (x ∷ xs)
@@ -75,14 +75,14 @@ place_stable [] more n c = absurd (contains_none n c)
 place_stable (x ∷ xs) more n c = stable_at x xs more n (bytes_eq n x) refl c (λ h. place_stable xs more n h)
 
 -- the number of a variable stays where more variables follow
-pub number_stable : (vars more : List (List ℕ)) (p : Path) → IsOneOf vars p → number (vars ++ more) p ≡ number vars p
+pub number_stable : (vars more : List (List ℕ)) (p : Path) → IsOneOf vars p → var_number (vars ++ more) p ≡ var_number vars p
 number_stable vars more p k = place_stable vars more (first_name p).text k.listed
 
-pub numbers_stable : (vars more : List (List ℕ)) (ps : List Path) → AreKnown vars ps → map (number (vars ++ more)) ps ≡ map (number vars) ps
+pub numbers_stable : (vars more : List (List ℕ)) (ps : List Path) → AreKnown vars ps → map (var_number (vars ++ more)) ps ≡ map (var_number vars) ps
 numbers_stable vars more [] k = refl
 numbers_stable vars more (p ∷ ps) k =
-    ap (λ v. v ∷ map (number (vars ++ more)) ps) (number_stable vars more p (All-head (IsOneOf vars) p ps k))
-    ∙ ap (λ vs. number vars p ∷ vs) (numbers_stable vars more ps (All-tail (IsOneOf vars) p ps k))
+    ap (λ v. v ∷ map (var_number (vars ++ more)) ps) (number_stable vars more p (All-head (IsOneOf vars) p ps k))
+    ∙ ap (λ vs. var_number vars p ∷ vs) (numbers_stable vars more ps (All-tail (IsOneOf vars) p ps k))
 
 -- each of the known paths is one of the variables
 pub known_at : (vars : List (List ℕ)) (ps : List Path) (i : ℕ) (p : Path) → i < length ps → p ≡ get_or ps i p → AreKnown vars ps → IsOneOf vars p

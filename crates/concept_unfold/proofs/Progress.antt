@@ -10,7 +10,7 @@ use Rattle.statement_set.specs.declared.statement.Statement.{Statement}
 use Rattle.statement_set.specs.Problem.{Task}
 use Rattle.statement_set.proofs.Lists.{all_left, all_right, all_of_map}
 use Rattle.utopist_syntax.specs.Named.{Named}
-use Rattle.utopist_syntax.specs.Tree.{Tree}
+use Rattle.utopist_syntax.specs.ExprTree.{ExprTree}
 use Rattle.utopist_syntax.specs.declared.path.Path.{Path}
 use Rattle.utopist_syntax.specs.declared.item.Part.{Part}
 use Rattle.utopist_syntax.specs.declared.item.Item.{Item}
@@ -25,8 +25,8 @@ use Rattle.concept_unfold.specs.Bodies.{body_over}
 use Rattle.concept_unfold.specs.Declarations.{texts, declared, variables, all_variables}
 use Rattle.concept_unfold.specs.Rows.{is_new, is_path, Row, Holds, AllHold}
 use Rattle.concept_unfold.specs.ConceptRules.{at_name, once_rows, known_rows, body_rows, item_rows, items_rows}
-use Rattle.concept_unfold.specs.UnfoldingRules.{size_of, statements_in}
-use Rattle.concept_unfold.specs.Unfolded.{number, statements_of, AreKnown}
+use Rattle.concept_unfold.specs.UnfoldingRules.{item_size, item_statements}
+use Rattle.concept_unfold.specs.Unfolded.{var_number, statements_of, AreKnown}
 use Rattle.concept_unfold.proofs.Faults.{faultless, body_behind_fewer}
 use Rattle.concept_unfold.proofs.Names.{among_both}
 use Rattle.concept_unfold.proofs.Passing.{none_hold, one_holds, both_hold, first_holds, rest_holds}
@@ -70,7 +70,7 @@ inputs_known_at vars (y ∷ parts) zero x lt is k =
     subst (λ (z : Part). AreKnown vars (input_in z)) (sym is) (all_left (IsOneOf vars) (input_in y) (inputs_of parts) k)
 inputs_known_at vars (y ∷ parts) (suc i) x lt is k = inputs_known_at vars parts i x (omega arith) is (all_right (IsOneOf vars) (input_in y) (inputs_of parts) k)
 
-module _ (names vars : List (List ℕ)) (i : ItemTree) (n : Named) (parts : List Part) (output : Path) (body : Option Tree) (shape : i ≡ rel n parts output body) (h : AllHold (item_rows names vars i)) where
+module _ (names vars : List (List ℕ)) (i : ItemTree) (n : Named) (parts : List Part) (output : Path) (body : Option ExprTree) (shape : i ≡ rel n parts output body) (h : AllHold (item_rows names vars i)) where
   abbrev output_rows : List Row
   output_rows = known_rows vars (output ∷ [])
 
@@ -115,10 +115,10 @@ statements_stable names vars more (rel n parts output body) h =
     let statement : List ℕ → ℕ → List Statement = λ ins out. record { inputs = ins; subs = []; output = out; body = body_over (input_names parts) body } ∷ [] in
     let known = inputs_known names vars (rel n parts output body) n parts output body refl h in
     let out = output_known names vars (rel n parts output body) n parts output body refl h in
-    ap (λ ins. statement ins (number (vars ++ more) output)) (numbers_stable vars more (inputs_of parts) known)
-    ∙ ap (λ out. statement (map (number vars) (inputs_of parts)) out) (number_stable vars more output out)
+    ap (λ ins. statement ins (var_number (vars ++ more) output)) (numbers_stable vars more (inputs_of parts) known)
+    ∙ ap (λ out. statement (map (var_number vars) (inputs_of parts)) out) (number_stable vars more output out)
 
-statement_count : (vars : List (List ℕ)) (i : ItemTree) → length (statements_of vars i) ≡ statements_in i
+statement_count : (vars : List (List ℕ)) (i : ItemTree) → length (statements_of vars i) ≡ item_statements i
 statement_count vars (var ns kind binds) = refl
 statement_count vars (eq left right) = refl
 statement_count vars (rel n parts output body) = refl
@@ -129,10 +129,10 @@ module _ (items : List Item) (i : ℕ) (x : Item) (lt : i < length items) (is : 
       let at : Item → Type 0 = λ y. IsBuiltItem (item_tree y) in
       subst at (sym is) (All-get_or at items i x lt (all_of_map IsBuiltItem item_tree items h))
 
-  pub item_size : sum_by size_of (map item_tree items) ≤ max_size → size_of (item_tree x) ≤ max_size
+  pub item_size : sum_by item_size (map item_tree items) ≤ max_size → item_size (item_tree x) ≤ max_size
   item_size h =
-      let f : Item → ℕ = λ y. size_of (item_tree y) in
-      omega (arith, h, get_or-le-sum_by f items i x lt, ap f is, fold-map (λ a y. a + size_of y) item_tree 0 items)
+      let f : Item → ℕ = λ y. item_size (item_tree y) in
+      omega (arith, h, get_or-le-sum_by f items i x lt, ap f is, fold-map (λ a y. a + item_size y) item_tree 0 items)
 
   pub here_follows : (names vars : List (List ℕ)) → AllHold (items_rows names vars (map item_tree (drop i items))) → AllHold (item_rows names vars (item_tree x))
   here_follows names vars h =
@@ -158,9 +158,9 @@ module _ (items : List Item) (i : ℕ) (x : Item) (lt : i < length items) (is : 
       ∙ append_assoc old (statements_of all (item_tree x)) (flat_map (statements_of all) (map item_tree (drop (i + 1) items)))
       ∙ sym (ap (λ (y : List Item). old ++ flat_map (statements_of all) (map item_tree y)) (drop_at items i x lt is)) ∙ h
 
-  pub room_more : (vars : List (List ℕ)) (old new : List Statement) → length old + sum_by statements_in (map item_tree (drop i items)) ≤ max_statements → new ≡ old ++ statements_of vars (item_tree x) → length new + sum_by statements_in (map item_tree (drop (i + 1) items)) ≤ max_statements
+  pub room_more : (vars : List (List ℕ)) (old new : List Statement) → length old + sum_by item_statements (map item_tree (drop i items)) ≤ max_statements → new ≡ old ++ statements_of vars (item_tree x) → length new + sum_by item_statements (map item_tree (drop (i + 1) items)) ≤ max_statements
   room_more vars old new h e =
-      let f : Item → ℕ = λ y. statements_in (item_tree y) in
+      let f : Item → ℕ = λ y. item_statements (item_tree y) in
       let here : f (get_or items i x) ≡ f x = ap f (sym is) in
       omega (
         arith,
@@ -168,8 +168,8 @@ module _ (items : List Item) (i : ℕ) (x : Item) (lt : i < length items) (is : 
         length-append old (statements_of vars (item_tree x)),
         statement_count vars (item_tree x),
         sum_by-drop_more f items i x lt,
-        fold-map (λ a y. a + statements_in y) item_tree 0 (drop i items),
-        fold-map (λ a y. a + statements_in y) item_tree 0 (drop (i + 1) items),
+        fold-map (λ a y. a + item_statements y) item_tree 0 (drop i items),
+        fold-map (λ a y. a + item_statements y) item_tree 0 (drop (i + 1) items),
         here,
       )
 

@@ -2,7 +2,7 @@
 use Rattle.std.proofs.lemmas.List.{map-append}
 use Rattle.std.proofs.Common.{◌≡◌, ℕ, List, [], ◌∷◌, ◌++◌, Option, subst, ap, ◌∙◌}
 use Rattle.utopist_syntax.specs.Named.{Named}
-use Rattle.utopist_syntax.specs.Tree.{Tree}
+use Rattle.utopist_syntax.specs.ExprTree.{ExprTree}
 use Rattle.utopist_syntax.specs.declared.path.Path.{Path}
 use Rattle.utopist_syntax.specs.declared.item.Part.{Part}
 use Rattle.utopist_syntax.specs.FileTree.{ItemTree, rel}
@@ -15,7 +15,7 @@ use Rattle.concept_unfold.proofs.Passing.{Passed, all_left, passed_more}
 pub same_known : (vars used : List (List ℕ)) (ns seen : List Path) → used ≡ vars → seen ≡ ns → known_rows used seen ≡ known_rows vars ns
 same_known vars used ns seen e same = ap (λ (v : List (List ℕ)). known_rows v seen) e ∙ ap (known_rows vars) same
 
-module _ (names vars : List (List ℕ)) (i : ItemTree) (n : Named) (parts : List Part) (o : Path) (body : Option Tree) (shape : i ≡ rel n parts o body) where
+module _ (names vars : List (List ℕ)) (i : ItemTree) (n : Named) (parts : List Part) (o : Path) (body : Option ExprTree) (shape : i ≡ rel n parts o body) where
   abbrev pub its_name : List Row
   its_name = at_name n rule.DuplicateName (is_new names n.text) ∷ []
 

@@ -10,7 +10,7 @@ use Rattle.concept_unfold.specs.Paths.{given_paths}
 use Rattle.concept_unfold.specs.Declarations.{all_variables, items_of, concept_names}
 use Rattle.concept_unfold.specs.Rows.{at_most, is_new, is_known, Row, AllHold}
 use Rattle.concept_unfold.specs.ConceptRules.{at_name, known_rows, items_rows, concept_rows, compute_rows}
-use Rattle.concept_unfold.specs.UnfoldingRules.{size_of, statements_in, limit_row, limit_rows}
+use Rattle.concept_unfold.specs.UnfoldingRules.{item_size, item_statements, limit_row, limit_rows}
 use Rattle.concept_unfold.proofs.Passing.{Passed, all_left, passed_more}
 
 module _ (earlier : List (List ℕ)) (c : ConceptTree) where
@@ -62,10 +62,10 @@ module _ (c : Compute) (items : List ItemTree) where
   variable_count = limit_row c limit.Variables max_variables (length (all_variables items)) ∷ []
 
   abbrev pub size_count : List Row
-  size_count = limit_row c limit.Size max_size (sum_by size_of items) ∷ []
+  size_count = limit_row c limit.Size max_size (sum_by item_size items) ∷ []
 
   abbrev pub statement_count : List Row
-  statement_count = limit_row c limit.Statements max_statements (sum_by statements_in items) ∷ []
+  statement_count = limit_row c limit.Statements max_statements (sum_by item_statements items) ∷ []
 
   pub at_paths : Passed (limit_rows c items) (path_count ++ (variable_count ++ (size_count ++ statement_count)))
   at_paths = all_left (limit_rows c items)

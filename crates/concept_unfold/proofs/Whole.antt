@@ -8,16 +8,16 @@ use Rattle.statement_set.specs.Problem.{Task, IsWhole}
 use Rattle.utopist_syntax.specs.declared.path.Path.{Path}
 use Rattle.utopist_syntax.specs.FileTree.{ItemTree, var, eq, rel}
 use Rattle.concept_unfold.specs.Paths.{IsOneOf}
-use Rattle.concept_unfold.specs.Unfolded.{AreKnown, number, plain_statement, statements_of}
+use Rattle.concept_unfold.specs.Unfolded.{AreKnown, var_number, plain_statement, statements_of}
 
-some_want : (vars : List (List ℕ)) (ws : List Path) → AreKnown vars ws → ws ≢ [] → (1 ≤ length vars) × (map (number vars) ws ≢ [])
+some_want : (vars : List (List ℕ)) (ws : List Path) → AreKnown vars ws → ws ≢ [] → (1 ≤ length vars) × (map (var_number vars) ws ≢ [])
 some_want vars [] known h = absurd (h refl)
 some_want vars (w ∷ ws) known h =
     let c = (All-head (IsOneOf vars) w ws known).listed in
     let lt = c.1 in
     (omega arith, λ e. absurd (cc))
 
-pub whole : (p : Task) (vars : List (List ℕ)) (ws : List Path) → p.names ≡ vars → p.wants ≡ map (number vars) ws → AreKnown vars ws → ws ≢ [] → IsWhole p
+pub whole : (p : Task) (vars : List (List ℕ)) (ws : List Path) → p.names ≡ vars → p.wants ≡ map (var_number vars) ws → AreKnown vars ws → ws ≢ [] → IsWhole p
 whole p vars ws names wants known h =
     let r = some_want vars ws known h in
     record {

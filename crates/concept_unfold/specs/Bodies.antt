@@ -8,7 +8,7 @@ use Rattle.body_lang.specs.declared.body.Body.TheVariants as leaf
 use Rattle.body_lang.specs.declared.body.Body.TheViews as node
 use Rattle.body_lang.specs.declared.loop_kind.LoopKind.{LoopKind}
 use Rattle.body_lang.specs.declared.loop_kind.LoopKind.TheVariants.{Sum, Prod, Iter}
-use Rattle.utopist_syntax.specs.Tree.{Tree, num, path, neg, op, choice, loop, call}
+use Rattle.utopist_syntax.specs.ExprTree.{ExprTree, num, path, neg, op, choice, loop, call}
 use Rattle.concept_unfold.specs.Paths.{first_of}
 
 -- the number of a loop, counted from the outside; the names of loops stand from the inside
@@ -26,13 +26,13 @@ abbrev pub named : List (List ℕ) → List (List ℕ) → List ℕ → Body
 named inputs rounds name = loop_or_input (loop_number name rounds) (position_or_len (bytes_eq name) inputs)
 
 -- a loop of each kind
-abbrev pub loop_of : LoopKind → Body → Body → Body → Body
-loop_of Sum a b e = node.Sum a b e
-loop_of Prod a b e = node.Prod a b e
-loop_of Iter a b e = node.Iter a b e
+abbrev pub loop_body : LoopKind → Body → Body → Body → Body
+loop_body Sum a b e = node.Sum a b e
+loop_body Prod a b e = node.Prod a b e
+loop_body Iter a b e = node.Iter a b e
 
 -- an expression inside the rounds of these loops, of the forms that are built
-abbrev pub expr_body : List (List ℕ) → List (List ℕ) → Tree → Body
+abbrev pub expr_body : List (List ℕ) → List (List ℕ) → ExprTree → Body
 expr_body inputs rounds (num n) = leaf.Num (whole n)
 expr_body inputs rounds (path names) = named inputs rounds (first_of names).text
 expr_body inputs rounds (neg a) = node.Neg (expr_body inputs rounds a)
@@ -40,10 +40,10 @@ expr_body inputs rounds (op o a b) = node.Op o (expr_body inputs rounds a) (expr
 expr_body inputs rounds (choice c a b t e) =
     node.If c (expr_body inputs rounds a) (expr_body inputs rounds b) (expr_body inputs rounds t) (expr_body inputs rounds e)
 expr_body inputs rounds (loop kind n a b e) =
-    loop_of kind (expr_body inputs rounds a) (expr_body inputs rounds b) (expr_body inputs (n.text ∷ rounds) e)
+    loop_body kind (expr_body inputs rounds a) (expr_body inputs rounds b) (expr_body inputs (n.text ∷ rounds) e)
 expr_body inputs rounds (call k place args) = node.Call 0 []
 
 -- the body over these inputs, if there is one
-abbrev pub body_over : List (List ℕ) → Option Tree → Option Body
+abbrev pub body_over : List (List ℕ) → Option ExprTree → Option Body
 body_over inputs None = None
 body_over inputs (Some e) = Some (expr_body inputs [] e)

@@ -4,7 +4,7 @@ use Rattle.std.specs.Str.{bytes_eq}
 use Rattle.std.specs.List.{list_any}
 use Rattle.body_lang.specs.Verdicts.{Verdict, and_then, fault_unless}
 use Rattle.utopist_syntax.specs.Named.{Named}
-use Rattle.utopist_syntax.specs.Tree.{Tree, num, path, neg, op, choice, loop, call}
+use Rattle.utopist_syntax.specs.ExprTree.{ExprTree, num, path, neg, op, choice, loop, call}
 use Rattle.concept_unfold.specs.declared.fault.Rule.{Rule}
 use Rattle.concept_unfold.specs.declared.fault.Rule.TheVariants as rule
 use Rattle.concept_unfold.specs.declared.fault.ModelFault.{ModelFault}
@@ -39,7 +39,7 @@ abbrev pub in_round : Named → Point → Point
 in_round n pt = record pt { taken = n.text ∷ pt.taken; rounds = n.text ∷ pt.rounds }
 
 -- an expression, of the forms that are built: the names of its loops are new, and its paths are readable
-abbrev pub expr_fault : Point → Tree → Verdict ModelFault
+abbrev pub expr_fault : Point → ExprTree → Verdict ModelFault
 expr_fault pt (num n) = Ok tt
 expr_fault pt (path names) = fault_unless (is_readable pt names) (broken_at (first_of names) rule.UnknownPath)
 expr_fault pt (neg a) = expr_fault pt a
@@ -52,6 +52,6 @@ expr_fault pt (loop kind n a b e) =
 expr_fault pt (call k place args) = Ok tt
 
 -- a body over these inputs that has no fault behind some names, or none
-abbrev pub IsFaultless : List (List ℕ) → Option Tree → Type 0
+abbrev pub IsFaultless : List (List ℕ) → Option ExprTree → Type 0
 IsFaultless inputs None = Unit {0}
 IsFaultless inputs (Some e) = (names : List (List ℕ)) × (expr_fault (record { taken = names; inputs = inputs; rounds = [] }) e ≡ Ok tt)

@@ -3,7 +3,7 @@ use Rattle.std.specs.Prelude.{◌≡◌, ◌≤ℤ◌, pos, [], All, Option, Som
 use Rattle.utopist_syntax.specs.declared.item.VarKind.TheVariants.{Numeric}
 use Rattle.utopist_syntax.specs.declared.item.Part.{Part}
 use Rattle.utopist_syntax.specs.declared.item.Part.TheVariants.{Input, Subtask}
-use Rattle.utopist_syntax.specs.Tree.{Tree, num, path, neg, op, choice, loop, call}
+use Rattle.utopist_syntax.specs.ExprTree.{ExprTree, num, path, neg, op, choice, loop, call}
 use Rattle.utopist_syntax.specs.FileTree.{ItemTree, var, eq, rel, ConceptTree, FileTree}
 
 -- a plain input
@@ -12,7 +12,7 @@ IsInput (Input p) = Unit {0}
 IsInput (Subtask inputs output) = ⊥
 
 -- an expression without a call, whose numbers are not negative
-abbrev pub IsBuiltExpr : Tree → Type 0
+abbrev pub IsBuiltExpr : ExprTree → Type 0
 IsBuiltExpr (num n) = pos 0 ≤ℤ n
 IsBuiltExpr (path names) = Unit {0}
 IsBuiltExpr (neg a) = IsBuiltExpr a
@@ -22,7 +22,7 @@ IsBuiltExpr (loop kind n a b e) = IsBuiltExpr a × (IsBuiltExpr b × IsBuiltExpr
 IsBuiltExpr (call k place args) = ⊥
 
 -- a body of such an expression, or none
-abbrev pub IsBuiltBody : Option Tree → Type 0
+abbrev pub IsBuiltBody : Option ExprTree → Type 0
 IsBuiltBody None = Unit {0}
 IsBuiltBody (Some e) = IsBuiltExpr e
 

@@ -4,7 +4,7 @@ use Rattle.body_lang.specs.Verdicts.{Verdict}
 use Rattle.utopist_syntax.specs.Named.{Named}
 use Rattle.utopist_syntax.specs.declared.path.Path.{Path}
 use Rattle.utopist_syntax.specs.declared.compute.Compute.{Compute}
-use Rattle.utopist_syntax.specs.Tree.{Tree}
+use Rattle.utopist_syntax.specs.ExprTree.{ExprTree}
 use Rattle.utopist_syntax.specs.FileTree.{ItemTree, var, eq, rel, ConceptTree, FileTree}
 use Rattle.concept_unfold.specs.declared.fault.Rule.{Rule}
 use Rattle.concept_unfold.specs.declared.fault.Rule.TheVariants as rule
@@ -35,7 +35,7 @@ fault_rows (Ok u) = []
 fault_rows (Err f) = record { place = f.place; rule = f.rule; check = never } ∷ []
 
 -- the body of a relation behind these names, its own among them: no loop has one of them, and the inputs and the loops are read
-abbrev pub body_rows : List (List ℕ) → List (List ℕ) → Option Tree → List Row
+abbrev pub body_rows : List (List ℕ) → List (List ℕ) → Option ExprTree → List Row
 body_rows names inputs None = []
 body_rows names inputs (Some e) = fault_rows (expr_fault (record { taken = names; inputs = inputs; rounds = [] }) e)
 

@@ -14,16 +14,16 @@ use Rattle.concept_unfold.specs.Rows.{at_most, Row}
 use Rattle.concept_unfold.specs.ConceptRules.{at_name, once_rows, concept_rules}
 
 -- how much an item adds to the size of a problem, of the forms that are built
-abbrev pub size_of : ItemTree → ℕ
-size_of (var names kind binds) = 0
-size_of (eq left right) = 0
-size_of (rel name parts output body) = 1 + length (inputs_of parts) + body_nodes body
+abbrev pub item_size : ItemTree → ℕ
+item_size (var names kind binds) = 0
+item_size (eq left right) = 0
+item_size (rel name parts output body) = 1 + length (inputs_of parts) + body_nodes body
 
 -- how many statements an item gives, of these forms
-abbrev pub statements_in : ItemTree → ℕ
-statements_in (var names kind binds) = 0
-statements_in (eq left right) = 0
-statements_in (rel name parts output body) = 1
+abbrev pub item_statements : ItemTree → ℕ
+item_statements (var names kind binds) = 0
+item_statements (eq left right) = 0
+item_statements (rel name parts output body) = 1
 
 -- a limit on the problem of a compute statement, checked at its name
 abbrev pub limit_row : Compute → Limit → ℕ → ℕ → Row
@@ -33,7 +33,7 @@ limit_row c l most n = at_name c.name (rule.TooMany l) (at_most most n)
 abbrev pub limit_rows : Compute → List ItemTree → List Row
 limit_rows c items =
     limit_row c limit.Paths max_paths (length (all_variables items)) ∷ limit_row c limit.Variables max_variables (length (all_variables items))
-    ∷ limit_row c limit.Size max_size (sum_by size_of items) ∷ limit_row c limit.Statements max_statements (sum_by statements_in items) ∷ []
+    ∷ limit_row c limit.Size max_size (sum_by item_size items) ∷ limit_row c limit.Statements max_statements (sum_by item_statements items) ∷ []
 
 -- the rules of unfolding of a compute statement
 abbrev pub unfolding_rules : FileTree → Compute → List Row

@@ -2,13 +2,13 @@
 ghost use Rattle.std.specs.Prelude.{◌≡◌, ◌≤◌, ◌+◌, ◌<◌, ◌^◌, ◌≤ℤ◌, pos, ℕ, List, length, IfOk};
 ghost use Rattle.body_lang.specs.declared.body.Body.TheVariants as leaf;
 ghost use Rattle.utopist_syntax.specs.View.{tree_of};
-ghost use Rattle.utopist_syntax.specs.FileTree.{body_tree};
+ghost use Rattle.utopist_syntax.specs.FileTree.{body_expr_tree};
 ghost use Rattle.concept_unfold.specs.Built.{IsBuiltExpr, IsBuiltBody};
 ghost use Rattle.concept_unfold.specs.Paths.{inputs_of, input_names, first_name};
 ghost use Rattle.concept_unfold.specs.LoopNames.{loop_names};
 ghost use Rattle.concept_unfold.specs.InputPlaces.{ArePlaces};
 ghost use Rattle.concept_unfold.specs.Nodes.{nodes, body_nodes};
-ghost use Rattle.concept_unfold.specs.Bodies.{named, loop_of as kind_of_loop, expr_body, body_over};
+ghost use Rattle.concept_unfold.specs.Bodies.{named, loop_body as kind_of_loop, expr_body, body_over};
 
 use crate::inputs::{Inputs, first_text};
 use crate::loops::{Loops, number_of};
@@ -25,9 +25,9 @@ pub(crate) fn body_of(
     parts: &[Part],
     body: &Option<Expr>,
 ) -> Result<Option<Body>, NoMem>
-    requires built { IsBuiltBody (body_tree body.now) }
-    requires few { length (inputs_of parts.now) + body_nodes (body_tree body.now) < 2 ^ 32 }
-    ensures { IfOk result (λ b. b ≡ body_over (input_names parts.now) (body_tree body.now)) }
+    requires built { IsBuiltBody (body_expr_tree body.now) }
+    requires few { length (inputs_of parts.now) + body_nodes (body_expr_tree body.now) < 2 ^ 32 }
+    ensures { IfOk result (λ b. b ≡ body_over (input_names parts.now) (body_expr_tree body.now)) }
 {
     let Some(expr) = body else {
         return Ok(None);
@@ -93,7 +93,7 @@ fn body_at(alloc: Global, inputs: &Inputs, rounds: &Loops, expr: &Expr) -> Resul
                 around: &*rounds,
             };
             let each = Boxed::new(alloc, body_at(alloc, inputs, &round, each.get())?)?;
-            Ok(loop_of(*kind, first, second, each))
+            Ok(loop_body(*kind, first, second, each))
         }
         Expr::Call { .. } => Ok(Body::Call {
             k: 0,
@@ -102,7 +102,7 @@ fn body_at(alloc: Global, inputs: &Inputs, rounds: &Loops, expr: &Expr) -> Resul
     }
 }
 
-fn loop_of(kind: LoopKind, first: Boxed<Body>, second: Boxed<Body>, each: Boxed<Body>) -> Body
+fn loop_body(kind: LoopKind, first: Boxed<Body>, second: Boxed<Body>, each: Boxed<Body>) -> Body
     ensures { result ≡ kind_of_loop kind first second each }
 {
     match kind {

@@ -2,7 +2,7 @@
 ghost use Rattle.std.specs.Prelude.{◌≡◌, ◌++◌, ℕ, List, not};
 ghost use Rattle.body_lang.specs.Verdicts.{fault_unless};
 ghost use Rattle.utopist_syntax.specs.View.{tree_of};
-ghost use Rattle.utopist_syntax.specs.FileTree.{body_tree};
+ghost use Rattle.utopist_syntax.specs.FileTree.{body_expr_tree};
 ghost use Rattle.concept_unfold.specs.Paths.{input_names, first_of};
 ghost use Rattle.concept_unfold.specs.LoopNames.{loop_names};
 ghost use Rattle.concept_unfold.specs.InputPlaces.{ArePlaces};
@@ -32,7 +32,7 @@ pub(crate) fn check_body(
     parts: &[Part],
     body: &Option<Expr>,
 ) -> Result<(), UnfoldFault>
-    ensures { Checks (body_rows declared.now (input_names parts.now) (body_tree body.now)) result }
+    ensures { Checks (body_rows declared.now (input_names parts.now) (body_expr_tree body.now)) result }
 {
     let Some(expr) = body else {
         return Ok(());

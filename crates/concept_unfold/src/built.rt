@@ -1,6 +1,6 @@
 ghost use Rattle.std.specs.Prelude.{◌≡◌, ◌↔◌, map, All, IsTrue};
 ghost use Rattle.utopist_syntax.specs.View.{tree_of};
-ghost use Rattle.utopist_syntax.specs.FileTree.{item_tree, body_tree, concept_tree, file_tree};
+ghost use Rattle.utopist_syntax.specs.FileTree.{item_tree, body_expr_tree, concept_tree, file_tree};
 ghost use Rattle.concept_unfold.specs.Built.{IsInput, IsBuiltExpr, IsBuiltBody, IsBuiltItem, IsBuiltConcept, IsBuilt};
 
 use utopist_syntax::{Concept, Expr, File, Item, Part, VarKind};
@@ -43,7 +43,7 @@ fn is_built_item(item: &Item) -> bool
 }
 
 fn is_built_body(body: &Option<Expr>) -> bool
-    ensures { IsTrue result ↔ IsBuiltBody (body_tree body.now) }
+    ensures { IsTrue result ↔ IsBuiltBody (body_expr_tree body.now) }
 {
     match body {
         Some(expr) => is_built_expr(expr),

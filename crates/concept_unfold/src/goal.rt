@@ -2,7 +2,7 @@ ghost use Rattle.std.specs.Prelude.{◌≡◌, [], map, OnOk};
 ghost use Rattle.concept_unfold.specs.Paths.{given_paths, given_names};
 ghost use Rattle.concept_unfold.specs.Rows.{Checks};
 ghost use Rattle.concept_unfold.specs.ConceptRules.{once_rows};
-ghost use Rattle.concept_unfold.specs.Unfolded.{number, given_of, AreKnown};
+ghost use Rattle.concept_unfold.specs.Unfolded.{var_number, given_of, AreKnown};
 
 use crate::fault::{Rule, UnfoldFault};
 use crate::numbers::var_of;
@@ -18,7 +18,7 @@ pub(crate) fn add_goal(problem: &mut Problem, compute: &Compute) -> Result<(), U
     requires givens { AreKnown problem.old.names (given_paths compute.now.givens) }
     requires wants { AreKnown problem.old.names compute.now.wants }
     ensures once { Checks (once_rows Rule.DuplicateInput [] (given_names compute.now.givens)) result }
-    ensures added { OnOk result (problem.new ≡ record problem.old { givens = map (given_of problem.old.names) compute.now.givens; wants = map (number problem.old.names) compute.now.wants }) }
+    ensures added { OnOk result (problem.new ≡ record problem.old { givens = map (given_of problem.old.names) compute.now.givens; wants = map (var_number problem.old.names) compute.now.wants }) }
 {
     add_givens(problem, compute.givens.as_slice())?;
     add_wants(problem, compute.wants.as_slice())?;
@@ -50,7 +50,7 @@ fn add_givens(problem: &mut Problem, givens: &[GivenPath]) -> Result<(), UnfoldF
 fn add_wants(problem: &mut Problem, paths: &[Path]) -> Result<(), NoMem>
     requires none { problem.old.wants ≡ [] }
     requires known { AreKnown problem.old.names paths.now }
-    ensures { OnOk result (problem.new ≡ record problem.old { wants = map (number problem.old.names) paths.now }) }
+    ensures { OnOk result (problem.new ≡ record problem.old { wants = map (var_number problem.old.names) paths.now }) }
 {
     for path in paths {
         problem.add_want(var_of(problem, path))?;

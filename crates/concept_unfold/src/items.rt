@@ -1,7 +1,7 @@
 ghost use Rattle.std.specs.Prelude.{◌≡◌, ◌+◌, ◌<◌, ◌≤◌, ◌∷◌, ◌++◌, [], length, map, All, OnOk};
 ghost use Rattle.std.specs.List.{flat_map, sum_by};
 ghost use Rattle.statement_set.specs.Problem.{empty_task};
-ghost use Rattle.utopist_syntax.specs.FileTree.{item_tree, body_tree};
+ghost use Rattle.utopist_syntax.specs.FileTree.{item_tree, body_expr_tree};
 ghost use Rattle.concept_unfold.specs.Limits.{max_variables, max_statements};
 ghost use Rattle.concept_unfold.specs.Built.{IsBuiltBody, IsBuiltItem};
 ghost use Rattle.concept_unfold.specs.Paths.{inputs_of, input_names, IsOneOf};
@@ -10,7 +10,7 @@ ghost use Rattle.concept_unfold.specs.BodyFault.{IsFaultless};
 ghost use Rattle.concept_unfold.specs.Declarations.{texts, variables, all_variables};
 ghost use Rattle.concept_unfold.specs.Rows.{AllHold};
 ghost use Rattle.concept_unfold.specs.ConceptRules.{once_rows, item_rows, items_rows};
-ghost use Rattle.concept_unfold.specs.UnfoldingRules.{size_of, statements_in};
+ghost use Rattle.concept_unfold.specs.UnfoldingRules.{item_size, item_statements};
 ghost use Rattle.concept_unfold.specs.Unfolded.{plain_statement, statements_of, AreKnown};
 
 use crate::bodies::body_of;
@@ -28,8 +28,8 @@ pub(crate) fn add_items(alloc: Global, problem: &mut Problem, items: &[Item]) ->
     requires rules { AllHold (items_rows [] [] (map item_tree items.now)) }
     requires built { All IsBuiltItem (map item_tree items.now) }
     requires names { length (all_variables (map item_tree items.now)) ≤ max_variables }
-    requires size { sum_by size_of (map item_tree items.now) ≤ 262144 }
-    requires statements { sum_by statements_in (map item_tree items.now) ≤ max_statements }
+    requires size { sum_by item_size (map item_tree items.now) ≤ 262144 }
+    requires statements { sum_by item_statements (map item_tree items.now) ≤ max_statements }
     ensures { OnOk result (problem.new ≡ record empty_task { names = all_variables (map item_tree items.now); statements = flat_map (statements_of (all_variables (map item_tree items.now))) (map item_tree items.now) }) }
 {
     for item in items {
@@ -42,8 +42,8 @@ fn add_item(alloc: Global, problem: &mut Problem, item: &Item) -> Result<(), NoM
     requires rules { AllHold (item_rows problem.old.names problem.old.names (item_tree item.now)) }
     requires built { IsBuiltItem (item_tree item.now) }
     requires names { length problem.old.names + length (variables (item_tree item.now)) ≤ max_variables }
-    requires size { size_of (item_tree item.now) ≤ 262144 }
-    requires statements { length problem.old.statements + statements_in (item_tree item.now) ≤ max_statements }
+    requires size { item_size (item_tree item.now) ≤ 262144 }
+    requires statements { length problem.old.statements + item_statements (item_tree item.now) ≤ max_statements }
     ensures { OnOk result (problem.new ≡ record problem.old { names = problem.old.names ++ variables (item_tree item.now); statements = problem.old.statements ++ statements_of problem.old.names (item_tree item.now) }) }
 {
     match item {
@@ -78,11 +78,11 @@ fn add_statement(
 ) -> Result<(), NoMem>
     requires inputs { AreKnown problem.old.names (inputs_of parts.now) }
     requires output { IsOneOf problem.old.names output.now }
-    requires built { IsBuiltBody (body_tree body.now) }
-    requires body { IsFaultless (input_names parts.now) (body_tree body.now) }
-    requires size { length (inputs_of parts.now) + body_nodes (body_tree body.now) ≤ 262144 }
+    requires built { IsBuiltBody (body_expr_tree body.now) }
+    requires body { IsFaultless (input_names parts.now) (body_expr_tree body.now) }
+    requires size { length (inputs_of parts.now) + body_nodes (body_expr_tree body.now) ≤ 262144 }
     requires room { length problem.old.statements < max_statements }
-    ensures { OnOk result (problem.new ≡ record problem.old { statements = problem.old.statements ++ plain_statement problem.old.names parts.now output.now (body_tree body.now) ∷ [] }) }
+    ensures { OnOk result (problem.new ≡ record problem.old { statements = problem.old.statements ++ plain_statement problem.old.names parts.now output.now (body_expr_tree body.now) ∷ [] }) }
 {
     problem.is_well_formed();
     let inputs = input_vars(alloc, problem, parts)?;

@@ -1,12 +1,12 @@
 ghost use Rattle.std.specs.Prelude.{◌≡◌, ◌-◌, ◌^◌, length, map, min};
 ghost use Rattle.std.specs.List.{sum_by};
 ghost use Rattle.utopist_syntax.specs.View.{tree_of};
-ghost use Rattle.utopist_syntax.specs.FileTree.{item_tree, body_tree};
+ghost use Rattle.utopist_syntax.specs.FileTree.{item_tree, body_expr_tree};
 ghost use Rattle.concept_unfold.specs.Paths.{inputs_of};
 ghost use Rattle.concept_unfold.specs.Nodes.{nodes, body_nodes};
 ghost use Rattle.concept_unfold.specs.Declarations.{variables, all_variables};
 ghost use Rattle.concept_unfold.specs.Rows.{Checks};
-ghost use Rattle.concept_unfold.specs.UnfoldingRules.{size_of, statements_in, limit_rows};
+ghost use Rattle.concept_unfold.specs.UnfoldingRules.{item_size, item_statements, limit_rows};
 
 use crate::fault::{Limit, UnfoldFault};
 use crate::rules::expect_at_most;
@@ -42,16 +42,16 @@ pub(crate) fn check_limits(compute: &Compute, items: &[Item]) -> Result<(), Unfo
 
 fn count(items: &[Item]) -> Counts
     ensures variables { result.variables ≡ min (length (all_variables (map item_tree items.now))) (2 ^ 64 - 1) }
-    ensures size { result.size ≡ min (sum_by size_of (map item_tree items.now)) (2 ^ 64 - 1) }
-    ensures statements { result.statements ≡ min (sum_by statements_in (map item_tree items.now)) (2 ^ 64 - 1) }
+    ensures size { result.size ≡ min (sum_by item_size (map item_tree items.now)) (2 ^ 64 - 1) }
+    ensures statements { result.statements ≡ min (sum_by item_statements (map item_tree items.now)) (2 ^ 64 - 1) }
 {
     let mut variables = 0usize;
     let mut size = 0usize;
     let mut statements = 0usize;
     for item in items {
         variables = variables.saturating_add(variables_in(item));
-        size = size.saturating_add(size_of(item));
-        statements = statements.saturating_add(statements_in(item));
+        size = size.saturating_add(item_size(item));
+        statements = statements.saturating_add(item_statements(item));
     }
     Counts {
         variables,
@@ -69,8 +69,8 @@ fn variables_in(item: &Item) -> usize
     }
 }
 
-fn size_of(item: &Item) -> usize
-    ensures { result ≡ min (size_of (item_tree item.now)) (2 ^ 64 - 1) }
+fn item_size(item: &Item) -> usize
+    ensures { result ≡ min (item_size (item_tree item.now)) (2 ^ 64 - 1) }
 {
     match item {
         Item::Var { .. } | Item::Eq { .. } => 0,
@@ -81,7 +81,7 @@ fn size_of(item: &Item) -> usize
 }
 
 fn body_nodes(body: &Option<Expr>) -> usize
-    ensures { result ≡ min (body_nodes (body_tree body.now)) (2 ^ 64 - 1) }
+    ensures { result ≡ min (body_nodes (body_expr_tree body.now)) (2 ^ 64 - 1) }
 {
     match body {
         Some(expr) => nodes(expr),
@@ -131,8 +131,8 @@ fn input_count(parts: &[Part]) -> usize
     count
 }
 
-fn statements_in(item: &Item) -> usize
-    ensures { result ≡ statements_in (item_tree item.now) }
+fn item_statements(item: &Item) -> usize
+    ensures { result ≡ item_statements (item_tree item.now) }
 {
     match item {
         Item::Var { .. } | Item::Eq { .. } => 0,

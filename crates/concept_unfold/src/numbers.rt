@@ -1,7 +1,7 @@
 ghost use Rattle.std.specs.Prelude.{◌≡◌, ◌<◌, ◌++◌, map, IfOk, OnOk};
 ghost use Rattle.statement_set.specs.Problem.{var_count, AreVars};
 ghost use Rattle.concept_unfold.specs.Paths.{input_in, inputs_of, IsOneOf};
-ghost use Rattle.concept_unfold.specs.Unfolded.{number, AreKnown};
+ghost use Rattle.concept_unfold.specs.Unfolded.{var_number, AreKnown};
 
 use priz_base::{NoMem, Var};
 use sqlite_items::Items;
@@ -12,7 +12,7 @@ use utopist_syntax::{Part, Path};
 /// The variable of that path.
 pub(crate) fn var_of(problem: &Problem, path: &Path) -> Var
     requires { IsOneOf problem.now.names path.now }
-    ensures number { result ≡ number problem.now.names path.now }
+    ensures number { result ≡ var_number problem.now.names path.now }
     ensures below { result < var_count problem.now }
 {
     problem.is_well_formed();
@@ -26,7 +26,7 @@ pub(crate) fn input_vars(
     parts: &[Part],
 ) -> Result<Items<Var>, NoMem>
     requires { AreKnown problem.now.names (inputs_of parts.now) }
-    ensures numbers { IfOk result (λ vs. vs ≡ map (number problem.now.names) (inputs_of parts.now)) }
+    ensures numbers { IfOk result (λ vs. vs ≡ map (var_number problem.now.names) (inputs_of parts.now)) }
     ensures below { IfOk result (AreVars (var_count problem.now)) }
 {
     let mut vars = Items::new(alloc);
@@ -38,7 +38,7 @@ pub(crate) fn input_vars(
 
 fn add_input(vars: &mut Items<Var>, problem: &Problem, part: &Part) -> Result<(), NoMem>
     requires { AreKnown problem.now.names (input_in part.now) }
-    ensures { OnOk result (vars.new ≡ vars.old ++ map (number problem.now.names) (input_in part.now)) }
+    ensures { OnOk result (vars.new ≡ vars.old ++ map (var_number problem.now.names) (input_in part.now)) }
 {
     if let Part::Input(path) = part {
         vars.push(var_of(problem, path))?;

@@ -6,11 +6,11 @@ use Rattle.proof_term.specs.declared.locals.Locals.{Locals}
 use Rattle.proof_term.specs.declared.locals.Locals.TheVariants as variants
 use Rattle.proof_term.specs.declared.locals.Locals.TheOpen.{Locals-F}
 use Rattle.proof_term.specs.declared.locals.Locals.TheFolds.{fold-roll-Locals}
-use Rattle.proof_term.specs.LocalValues.{value_behind, local_values}
+use Rattle.proof_term.specs.LocalValues.{value_inside, local_values}
 
 -- the values inside one more loop
 pub inside_values : (v : Ratio) (around : Bor Locals) → local_values (variants.Inside v around) ≡ local_values around.now ++ v ∷ []
-inside_values v around = ap local_values (sym (variants.rolls-Inside v around)) ∙ fold-roll-Locals (List Ratio) value_behind (Locals-F.Inside v around)
+inside_values v around = ap local_values (sym (variants.rolls-Inside v around)) ∙ fold-roll-Locals (List Ratio) value_inside (Locals-F.Inside v around)
 
 kept_place : (xs ys : List Ratio) (j : ℕ) (v : Ratio) → slice_get xs j ≡ Some v → slice_get (xs ++ ys) j ≡ Some v
 kept_place [] ys j v e = absurd (cc)

@@ -5,21 +5,21 @@ use Rattle.priz_frac.specs.Whole.{whole_of, whole}
 use Rattle.body_lang.specs.declared.op.Op.TheVariants.{Add, Mul}
 use Rattle.body_lang.specs.declared.body.Body.{Body}
 use Rattle.body_lang.specs.declared.body.Body.TheViews as views
-use Rattle.body_lang.specs.BodyTree.{Tree}
+use Rattle.body_lang.specs.BodyTree.{BodyTree}
 use Rattle.body_lang.specs.View.{body_tree}
 use Rattle.body_lang.specs.Mode.{narrowly}
-use Rattle.body_lang.specs.Meaning.{Answer, mean}
+use Rattle.body_lang.specs.Meaning.{Calls, mean}
 use Rattle.body_lang.specs.Rounds.{rounds_between, replacements_for}
 use Rattle.body_lang.specs.Run.{Ran, then_with}
 use Rattle.body_lang.proofs.BodyTrees.{total_tree, product_tree, iterate_tree}
-use Rattle.proof_term.specs.Agrees.{part_at}
+use Rattle.proof_term.specs.Agrees.{repeated_part}
 
-module _ (owner : ℕ) (answer : Answer) (inputs locals : List Ratio) where
-  abbrev pub means : Tree → ℕ → Ran
+module _ (owner : ℕ) (answer : Calls) (inputs locals : List Ratio) where
+  abbrev pub means : BodyTree → ℕ → Ran
   means b t = mean narrowly owner answer b inputs locals t
 
-  abbrev each : Tree → Ratio → ℕ → Ran
-  each e = part_at owner answer e inputs locals
+  abbrev each : BodyTree → Ratio → ℕ → Ran
+  each e = repeated_part owner answer e inputs locals
 
   module _ (body a b e : Body) (x y start : Ratio) (t u v : ℕ) (ea : means (body_tree a) t ≡ Ok (x, u)) (eb : means (body_tree b) u ≡ Ok (y, v)) where
     pub sum_is : body ≡ views.Sum a b e → start ≡ whole (pos 0) → means (body_tree body) t ≡ rounds_between narrowly owner Add start (each (body_tree e)) (whole_of x) (whole_of y) v

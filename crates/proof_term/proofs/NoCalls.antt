@@ -2,7 +2,7 @@
 use Rattle.std.proofs.Common.{◌≡◌, ℕ, suc, List, [], Option, Some, Ok, refl, subst, length, map}
 use Rattle.std.specs.Prelude.{All, IfSome, slice_get}
 use Rattle.body_lang.specs.declared.body.Body.{Body}
-use Rattle.body_lang.specs.BodyTree.{Tree, num, input, local, neg, op, choice, total, product, iterate, call, count_of}
+use Rattle.body_lang.specs.BodyTree.{BodyTree, num, input, local, neg, op, choice, total, product, iterate, call, count_of}
 use Rattle.body_lang.specs.View.{body_tree}
 use Rattle.body_lang.specs.Checked.{checked, all_checked, call_checked}
 use Rattle.body_lang.proofs.Verdicts.{first_passes, second_passes}
@@ -13,7 +13,7 @@ use Rattle.statement_set.proofs.Lists.{all_at}
 use Rattle.proof_term.specs.HasNoCall.{HasNoCall}
 
 -- a body that passes where there is no subtask
-calls_nothing : (n loops : ℕ) (t : Tree) → checked n [] loops t ≡ Ok tt → HasNoCall t
+calls_nothing : (n loops : ℕ) (t : BodyTree) → checked n [] loops t ≡ Ok tt → HasNoCall t
 calls_nothing n loops (num v) h = tt
 calls_nothing n loops (input i) h = tt
 calls_nothing n loops (local j) h = tt

@@ -6,7 +6,7 @@ use Rattle.std.proofs.lemmas.List.Elements.{All-get_or}
 use Rattle.priz_base.proofs.More.{drop_at}
 use Rattle.priz_frac.specs.Ratio.{Ratio}
 use Rattle.body_lang.specs.Run.{then_with}
-use Rattle.body_lang.specs.Meaning.{Answer}
+use Rattle.body_lang.specs.Meaning.{Calls}
 use Rattle.body_lang.specs.Stop.{Stop, fault}
 use Rattle.statement_set.specs.declared.given.Given.{Given}
 use Rattle.statement_set.specs.Problem.{Task, given_vars, var_count, IsWellFormed}
@@ -27,7 +27,7 @@ stops_along NoMem m n h a = tt
 
 module _ (p : Task) (steps : List Step) (i : ℕ) (s : Step) (lt : i < length steps) (is : s ≡ get_or steps i s) where
   -- what its calls are answered by
-  abbrev pub answered : Env → Answer
+  abbrev pub answered : Env → Calls
   answered e k arguments rest = called p (subs_of s.subs) (statement_at p s.stmt).subs k e arguments rest
 
   opened : steps_of (drop i steps) ≡ step s.stmt (subs_of s.subs) (steps_of (drop (i + 1) steps))

@@ -1,8 +1,8 @@
 -- Bodies that call no subtask.
-use Rattle.body_lang.specs.BodyTree.{Tree, num, input, local, neg, op, choice, total, product, iterate, call}
+use Rattle.body_lang.specs.BodyTree.{BodyTree, num, input, local, neg, op, choice, total, product, iterate, call}
 
 -- no call stands in the body
-abbrev pub HasNoCall : Tree → Type 0
+abbrev pub HasNoCall : BodyTree → Type 0
 HasNoCall (num v) = Unit {0}
 HasNoCall (input i) = Unit {0}
 HasNoCall (local j) = Unit {0}

@@ -18,17 +18,17 @@ steps_of (s ∷ more) = step s.stmt (subs_of s.subs) (steps_of more)
 
 abbrev mutual
   -- the number of nodes of a block; it is no count of steps
-  pub size_of : Steps → ℕ
-  size_of done = 1
-  size_of (step n subs more) = 1 + subs_size subs + size_of more
+  pub block_size : Steps → ℕ
+  block_size done = 1
+  block_size (step n subs more) = 1 + subs_size subs + block_size more
 
   -- the number of nodes of a step's answers
   pub subs_size : Subs → ℕ
   subs_size no_more = 1
   subs_size (known more) = 1 + subs_size more
-  subs_size (block b more) = 1 + size_of b + subs_size more
+  subs_size (block b more) = 1 + block_size b + subs_size more
 
 -- the number of nodes of one answer
 abbrev pub sub_size : Sub → ℕ
 sub_size Known = 1
-sub_size (Body b) = 1 + size_of b
+sub_size (Body b) = 1 + block_size b

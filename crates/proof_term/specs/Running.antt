@@ -2,12 +2,12 @@
 use Rattle.std.specs.Prelude.{ℕ, zero, suc, pos, List, [], ◌∷◌, length, map, slice_get, slice_set, replicate, None, unwrap_or, Result, Ok, Err}
 use Rattle.std.specs.Option.{option_map_or}
 use Rattle.priz_frac.specs.Ratio.{Ratio}
-use Rattle.body_lang.specs.BodyTree.{Tree, num}
+use Rattle.body_lang.specs.BodyTree.{BodyTree, num}
 use Rattle.body_lang.specs.View.{body_tree}
 use Rattle.body_lang.specs.Mode.{narrowly}
 use Rattle.body_lang.specs.Values.{value_at}
 use Rattle.priz_frac.specs.Whole.{whole}
-use Rattle.body_lang.specs.Meaning.{Answer, mean}
+use Rattle.body_lang.specs.Meaning.{Calls, mean}
 use Rattle.body_lang.specs.Run.{Ran, then_with, turn_then}
 use Rattle.body_lang.specs.Stop.{Stop, no_row}
 use Rattle.statement_set.specs.declared.subtask.Subtask.{Subtask}
@@ -24,8 +24,8 @@ abbrev pub statement_at : Task → ℕ → Statement
 statement_at p n = unwrap_or (slice_get p.statements n) (record { inputs = []; subs = []; output = 0; body = None })
 
 -- the tree of its body; 0 where there is none
-abbrev pub body_at : Task → ℕ → Tree
-body_at p n = option_map_or body_tree (statement_at p n).body (num (whole (pos 0)))
+abbrev pub statement_body : Task → ℕ → BodyTree
+statement_body p n = option_map_or body_tree (statement_at p n).body (num (whole (pos 0)))
 
 -- the environment in which variables have these values
 abbrev pub with_values : Env → List ℕ → List Ratio → Env
@@ -34,9 +34,9 @@ with_values e (v ∷ vars) [] = e
 with_values e (v ∷ vars) (x ∷ values) = with_values (slice_set e v x) vars values
 
 -- a step: a turn, and then the body, whose value the output gets
-abbrev pub one_step : Task → ℕ → Answer → Env → ℕ → Result (Env × ℕ) Stop
+abbrev pub one_step : Task → ℕ → Calls → Env → ℕ → Result (Env × ℕ) Stop
 one_step p n answer e turns =
-    then_with (turn_then narrowly n turns (λ left. mean narrowly n answer (body_at p n) (map (value_at e) (statement_at p n).inputs) [] left))
+    then_with (turn_then narrowly n turns (λ left. mean narrowly n answer (statement_body p n) (map (value_at e) (statement_at p n).inputs) [] left))
     (λ value left. Ok (slice_set e (statement_at p n).output value, left))
 
 abbrev mutual

@@ -24,11 +24,11 @@ impl Model for Block {
 
     ghost coded = { coded_steps };
 
-    ghost use Rattle.proof_term.specs.Plain.{steps_of, size_of};
+    ghost use Rattle.proof_term.specs.Plain.{steps_of, block_size};
 
     ghost view = { λ b. steps_of b.steps };
 
-    ghost size = { size_of };
+    ghost size = { block_size };
 
     ghost use Rattle.proof_term.specs.Falls.{size_falls};
 

@@ -2,13 +2,13 @@
 ghost use Rattle.std.specs.Prelude.{ℕ};
 ghost use Rattle.body_lang.specs.View.{body_tree};
 ghost use Rattle.body_lang.specs.Mode.{narrowly};
-ghost use Rattle.body_lang.specs.Meaning.{Answer, mean};
+ghost use Rattle.body_lang.specs.Meaning.{Calls, mean};
 ghost use Rattle.body_lang.specs.Operation.{operate, as_run};
 ghost use Rattle.body_lang.specs.Rounds.{one_round, rounds, round_count, rounds_between, replacements, replacements_for};
 ghost use Rattle.priz_frac.specs.Whole.{whole_of};
 ghost use Rattle.proof_term.specs.HasNoCall.{HasNoCall};
 ghost use Rattle.proof_term.specs.LocalValues.{local_values};
-ghost use Rattle.proof_term.specs.Agrees.{Agrees, part_at};
+ghost use Rattle.proof_term.specs.Agrees.{Agrees, repeated_part};
 
 use crate::locals::{Locals, local_at};
 use crate::numbers::{holds, is_whole, operate, round_count, round_value, run_fault, value_at};
@@ -24,7 +24,7 @@ pub(crate) fn evaluate(
     turns: u32,
 ) -> Result<(Frac, u32), RunFault>
     requires { HasNoCall (body_tree body.now) }
-    ensures { (owner : ℕ) (answer : Answer) → Agrees owner result (mean narrowly owner answer (body_tree body.now) inputs.now (local_values locals.now) turns) }
+    ensures { (owner : ℕ) (answer : Calls) → Agrees owner result (mean narrowly owner answer (body_tree body.now) inputs.now (local_values locals.now) turns) }
 {
     match body {
         Body::Num(value) => Ok((*value, turns)),
@@ -106,7 +106,7 @@ fn round(
     turns: u32,
 ) -> Result<(Frac, u32), RunFault>
     requires { HasNoCall (body_tree each.now) }
-    ensures { (owner : ℕ) (answer : Answer) → Agrees owner result (one_round narrowly owner (part_at owner answer (body_tree each.now) inputs.now (local_values locals.now)) value turns) }
+    ensures { (owner : ℕ) (answer : Calls) → Agrees owner result (one_round narrowly owner (repeated_part owner answer (body_tree each.now) inputs.now (local_values locals.now)) value turns) }
 {
     if turns == 0 {
         return Err(RunFault::Turns);
@@ -131,7 +131,7 @@ fn gather(
     turns: u32,
 ) -> Result<(Frac, u32), RunFault>
     requires { HasNoCall (body_tree each.now) }
-    ensures { (owner : ℕ) (answer : Answer) → Agrees owner result (rounds_between narrowly owner op start (part_at owner answer (body_tree each.now) inputs.now (local_values locals.now)) (whole_of first) (whole_of second) turns) }
+    ensures { (owner : ℕ) (answer : Calls) → Agrees owner result (rounds_between narrowly owner op start (repeated_part owner answer (body_tree each.now) inputs.now (local_values locals.now)) (whole_of first) (whole_of second) turns) }
 {
     if !is_whole(first) || !is_whole(second) {
         return Err(RunFault::NotWhole);
@@ -151,7 +151,7 @@ fn gather_between(
     turns: u32,
 ) -> Result<(Frac, u32), RunFault>
     requires { HasNoCall (body_tree each.now) }
-    ensures { (owner : ℕ) (answer : Answer) → Agrees owner result (rounds narrowly owner op (part_at owner answer (body_tree each.now) inputs.now (local_values locals.now)) (round_count first.num second.num) first.num start turns) }
+    ensures { (owner : ℕ) (answer : Calls) → Agrees owner result (rounds narrowly owner op (repeated_part owner answer (body_tree each.now) inputs.now (local_values locals.now)) (round_count first.num second.num) first.num start turns) }
 {
     let count = round_count(first, second);
     let mut total = start;
@@ -174,7 +174,7 @@ fn replace(
     turns: u32,
 ) -> Result<(Frac, u32), RunFault>
     requires { HasNoCall (body_tree each.now) }
-    ensures { (owner : ℕ) (answer : Answer) → Agrees owner result (replacements_for narrowly owner (part_at owner answer (body_tree each.now) inputs.now (local_values locals.now)) start (whole_of times) turns) }
+    ensures { (owner : ℕ) (answer : Calls) → Agrees owner result (replacements_for narrowly owner (repeated_part owner answer (body_tree each.now) inputs.now (local_values locals.now)) start (whole_of times) turns) }
 {
     let Some(count) = times.whole() else {
         return Err(RunFault::NotWhole);
@@ -195,7 +195,7 @@ fn replace_times(
     turns: u32,
 ) -> Result<(Frac, u32), RunFault>
     requires { HasNoCall (body_tree each.now) }
-    ensures { (owner : ℕ) (answer : Answer) → Agrees owner result (replacements narrowly owner (part_at owner answer (body_tree each.now) inputs.now (local_values locals.now)) count start turns) }
+    ensures { (owner : ℕ) (answer : Calls) → Agrees owner result (replacements narrowly owner (repeated_part owner answer (body_tree each.now) inputs.now (local_values locals.now)) count start turns) }
 {
     let mut value = start;
     let mut left = turns;

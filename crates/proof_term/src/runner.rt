@@ -4,13 +4,13 @@ ghost use Rattle.std.specs.Vec.{vec_items};
 ghost use Rattle.body_lang.specs.Mode.{narrowly};
 ghost use Rattle.body_lang.specs.Values.{value_at};
 ghost use Rattle.priz_frac.specs.Whole.{whole};
-ghost use Rattle.body_lang.specs.Meaning.{Answer, mean};
+ghost use Rattle.body_lang.specs.Meaning.{Calls, mean};
 ghost use Rattle.statement_set.specs.Problem.{IsPlain, var_count, given_vars};
 ghost use Rattle.proof_term.specs.Plain.{steps_of};
 ghost use Rattle.proof_term.specs.Agrees.{Agrees};
 ghost use Rattle.proof_term.specs.Bodies.{first_without_body};
 ghost use Rattle.proof_term.specs.RunOf.{StopsAs};
-ghost use Rattle.proof_term.specs.Running.{start_of, with_values, run, one_step, body_at, goal_values};
+ghost use Rattle.proof_term.specs.Running.{start_of, with_values, run, one_step, statement_body, goal_values};
 
 use crate::evaluate::evaluate;
 use crate::locals::Locals;
@@ -47,7 +47,7 @@ pub fn run_block(
         env.as_mut_slice(),
         turns,
     )?;
-    Ok(values_of(alloc, env.as_slice(), problem.wants())?)
+    Ok(values_at(alloc, env.as_slice(), problem.wants())?)
 }
 
 // Where the run starts: what is given has its value.
@@ -111,15 +111,15 @@ fn run_step(
     requires body { IsSomeAnd (slice_get problem.now.statements stmt) (λ s. IsSome s.body) }
     requires env { length env.old ≡ var_count problem.now }
     requires plain { IsPlain problem.now }
-    ensures next { IfOk result (λ left. (answer : Answer) → one_step problem.now stmt answer env.old turns ≡ Ok (env.new, left)) }
+    ensures next { IfOk result (λ left. (answer : Calls) → one_step problem.now stmt answer env.old turns ≡ Ok (env.new, left)) }
     ensures room { length env.new ≡ length env.old }
-    ensures stop { IfErr result (λ e. (answer : Answer) → StopsAs e (one_step problem.now stmt answer env.old turns)) }
+    ensures stop { IfErr result (λ e. (answer : Calls) → StopsAs e (one_step problem.now stmt answer env.old turns)) }
 {
     if turns == 0 {
         return Err(fault(stmt, RunFault::Turns));
     }
     problem.is_well_formed();
-    let inputs = values_of(alloc, env, problem.inputs(stmt))?;
+    let inputs = values_at(alloc, env, problem.inputs(stmt))?;
     let output = problem.output(stmt);
     match value_of(problem, stmt, inputs.as_slice(), turns - 1) {
         Ok((value, left)) => {
@@ -139,7 +139,7 @@ fn value_of(
 ) -> Result<(Frac, u32), RunFault>
     requires body { IsSomeAnd (slice_get problem.now.statements stmt) (λ s. IsSome s.body) }
     requires plain { IsPlain problem.now }
-    ensures { (answer : Answer) → Agrees stmt result (mean narrowly stmt answer (body_at problem.now stmt) inputs.now [] turns) }
+    ensures { (answer : Calls) → Agrees stmt result (mean narrowly stmt answer (statement_body problem.now stmt) inputs.now [] turns) }
 {
     problem.is_well_formed();
     let body = problem.body(stmt).unwrap();
@@ -153,7 +153,7 @@ fn fault(stmt: u32, kind: RunFault) -> RunStop
 }
 
 // The values of these variables.
-fn values_of(alloc: Global, env: &[Frac], vars: &[Var]) -> Result<Vec<Frac>, AllocError>
+fn values_at(alloc: Global, env: &[Frac], vars: &[Var]) -> Result<Vec<Frac>, AllocError>
     ensures { IfOk result (λ values. vec_items values ≡ map (value_at env.now) vars.now) }
 {
     let mut values = Vec::new(alloc);

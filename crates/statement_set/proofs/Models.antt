@@ -4,7 +4,7 @@ use Rattle.std.specs.Prelude.{Contains, All, map}
 use Rattle.std.proofs.lemmas.List.Elements.{All-nil, All-cons, All-head, All-tail, All-contains, All-weaker, All-append, All-map}
 use Rattle.priz_base.specs.Sets.{IsWithin}
 use Rattle.statement_set.specs.Formula.{Formula, atom, falsum, imp, and, or, chain, atoms, statement_formula}
-use Rattle.statement_set.specs.Derivation.{Tree, assume, imp_intro, imp_elim, and_intro, and_left, and_right, or_left, or_right, or_elim, from_false, derives, Follows}
+use Rattle.statement_set.specs.Derivation.{Derivation, assume, imp_intro, imp_elim, and_intro, and_left, and_right, or_left, or_right, or_elim, from_false, derives, Follows}
 use Rattle.statement_set.specs.Problem.{Task}
 use Rattle.statement_set.specs.Goal.{IsDerivableFrom, hypotheses_from}
 use Rattle.statement_set.specs.Forcing.{World, forces}
@@ -28,7 +28,7 @@ pub kept_all : (L : List World) (H : List Formula) (w u : World) → IsWithin w 
 kept_all L H w u i h = All-weaker (forces L w) (forces L u) (λ A f. kept L A w u i f) H h
 
 -- a tree derives only what is forced where its hypotheses are
-pub sound : (L : List World) (t : Tree) (H : List Formula) (A : Formula) (w : World) → Contains L w → ForcesAll L w H → derives t H A → forces L w A
+pub sound : (L : List World) (t : Derivation) (H : List Formula) (A : Formula) (w : World) → Contains L w → ForcesAll L w H → derives t H A → forces L w A
 sound L assume H A w c h d = All-contains (forces L w) H A h d
 sound L (imp_intro t) H (imp A B) w c h d = λ u k i f. sound L t (A ∷ H) B u k (All-cons (forces L u) A H f (kept_all L H w u i h)) d
 sound L (imp_intro t) H _ w c h d = absurd d

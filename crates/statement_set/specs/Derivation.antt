@@ -3,20 +3,20 @@ use Rattle.std.specs.Prelude.{List, ◌∷◌, Contains}
 use Rattle.statement_set.specs.Formula.{Formula, falsum, imp, and, or}
 
 -- a tree has a rule at each node, and the formulas that the rule's conclusion does not show
-pub data Tree : Type 0 where
-  assume : Tree
-  imp_intro : (t : Tree) → Tree
-  imp_elim : (A : Formula) (t u : Tree) → Tree
-  and_intro : (t u : Tree) → Tree
-  and_left : (B : Formula) (t : Tree) → Tree
-  and_right : (A : Formula) (t : Tree) → Tree
-  or_left : (t : Tree) → Tree
-  or_right : (t : Tree) → Tree
-  or_elim : (A B : Formula) (t u v : Tree) → Tree
-  from_false : (t : Tree) → Tree
+pub data Derivation : Type 0 where
+  assume : Derivation
+  imp_intro : (t : Derivation) → Derivation
+  imp_elim : (A : Formula) (t u : Derivation) → Derivation
+  and_intro : (t u : Derivation) → Derivation
+  and_left : (B : Formula) (t : Derivation) → Derivation
+  and_right : (A : Formula) (t : Derivation) → Derivation
+  or_left : (t : Derivation) → Derivation
+  or_right : (t : Derivation) → Derivation
+  or_elim : (A B : Formula) (t u v : Derivation) → Derivation
+  from_false : (t : Derivation) → Derivation
 
 -- the tree derives the formula from the hypotheses
-abbrev pub derives : Tree → List Formula → Formula → Type 0
+abbrev pub derives : Derivation → List Formula → Formula → Type 0
 derives assume H A = Contains H A
 derives (imp_intro t) H (imp A B) = derives t (A ∷ H) B
 derives (imp_intro t) H _ = ⊥
@@ -34,4 +34,4 @@ derives (from_false t) H A = derives t H falsum
 
 -- some tree derives the formula from the hypotheses
 abbrev pub Follows : List Formula → Formula → Type 0
-Follows H A = (t : Tree) × derives t H A
+Follows H A = (t : Derivation) × derives t H A

@@ -3,7 +3,7 @@ use Rattle.std.specs.Prelude.{ℕ, [], ◌∷◌, codes, None}
 use Rattle.statement_set.specs.declared.subtask.Subtask.{Subtask}
 use Rattle.statement_set.specs.Problem.{Task}
 use Rattle.statement_set.specs.Formula.{atom, imp}
-use Rattle.statement_set.specs.Derivation.{Tree, assume, imp_elim}
+use Rattle.statement_set.specs.Derivation.{Derivation, assume, imp_elim}
 
 -- a program from u to v is needed
 abbrev pub from_to : ℕ → ℕ → Subtask
@@ -28,5 +28,5 @@ peirce = record {
 }
 
 -- t of the sum of squares by two implications, whose premises are hypotheses
-abbrev pub squares_tree : Tree
+abbrev pub squares_tree : Derivation
 squares_tree = imp_elim (atom 2) (imp_elim (imp (atom 0) (atom 1)) assume assume) assume

@@ -4,7 +4,7 @@ ghost use Rattle.std.specs.Prelude.{ℕ, All, Contains, List, [], ◌∷◌};
 ghost use Rattle.priz_base.specs.Sets.{IsWithin};
 ghost use Rattle.statement_set.specs.Problem.{Task};
 ghost use Rattle.statement_set.specs.Formula.{Formula};
-ghost use Rattle.statement_set.specs.Derivation.{Tree, derives};
+ghost use Rattle.statement_set.specs.Derivation.{Derivation, derives};
 ghost use Rattle.statement_set.specs.Goal.{IsDerivableFrom};
 ghost use Rattle.statement_set.specs.Forcing.{World, forces};
 ghost use Rattle.statement_set.specs.Countermodel.{IsCountermodelFrom, RefutesAlone};
@@ -16,7 +16,7 @@ pub fn forcing_is_kept()
 
 /// A tree derives only what is forced wherever its hypotheses are.
 pub fn rules_keep_forcing()
-    ensures { (L : List World) (w : World) (t : Tree) (H : List Formula) (A : Formula) → Contains L w → All (forces L w) H → derives t H A → forces L w A }
+    ensures { (L : List World) (w : World) (t : Derivation) (H : List Formula) (A : Formula) → Contains L w → All (forces L w) H → derives t H A → forces L w A }
 {}
 
 /// Where there is a countermodel, the goal is not derivable.

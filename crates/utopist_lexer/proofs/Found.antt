@@ -19,7 +19,7 @@ use Rattle.utopist_lexer.specs.Characters.{is_start, has}
 use Rattle.utopist_lexer.specs.Spelling.{word_text, mark_text}
 use Rattle.utopist_lexer.specs.Lexical.{AreDigits, value_of, Spells, IsLongest, IsFree, IsToken, max_name, max_number}
 use Rattle.utopist_lexer.specs.Faults.{Front, Faulty}
-use Rattle.utopist_lexer.specs.Tables.{word_of, mark_at}
+use Rattle.utopist_lexer.specs.Tables.{word_of, front_mark}
 use Rattle.utopist_lexer.specs.Cutting.{Parts, IsRun, StartsBy, IsValue}
 use Rattle.utopist_lexer.proofs.Spellings.{word_of-text}
 use Rattle.utopist_lexer.proofs.Leads.{word_ascii}
@@ -39,7 +39,7 @@ find_some p (y ∷ ys) x e = find_step p y (find p ys) x (p y) (find_some p ys x
 word_of-some : (text : List ℕ) (w : Word) → word_of text ≡ Some w → text ≡ word_text w
 word_of-some text w e = sym ((bytes_eq-Decides (word_text w) text).0 (find_some (λ v. bytes_eq (word_text v) text) WORDS w e))
 
-pub mark_at-some : (text : List ℕ) (m : Mark) → mark_at text ≡ Some m → (rest : List ℕ) × (text ≡ mark_text m ++ rest)
+pub mark_at-some : (text : List ℕ) (m : Mark) → front_mark text ≡ Some m → (rest : List ℕ) × (text ≡ mark_text m ++ rest)
 mark_at-some text m e = (_, (starts_is Decides-eqb text (mark_text m) _ refl).0 (find_some (λ n. starts_with eqb text (mark_text n)) MARKS m e))
 
 -- the characters of a keyword's bytes

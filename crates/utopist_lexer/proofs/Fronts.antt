@@ -14,7 +14,7 @@ use Rattle.utopist_lexer.specs.Characters.{is_start, is_continue, has}
 use Rattle.utopist_lexer.specs.Spelling.{mark_text}
 use Rattle.utopist_lexer.specs.Lexical.{IsIdentifier, AreDigits, Spells}
 use Rattle.utopist_lexer.specs.Faults.{IsLoneDollar}
-use Rattle.utopist_lexer.specs.Tables.{mark_at}
+use Rattle.utopist_lexer.specs.Tables.{front_mark}
 use Rattle.utopist_lexer.specs.Cutting.{StopsAt, IsRun}
 use Rattle.utopist_lexer.proofs.CharacterFacts.{start_continues}
 use Rattle.utopist_lexer.proofs.Spellings.{mark_greatest, mark_found}
@@ -97,14 +97,14 @@ module _ (text : List ℕ) (c : ℕ) (cs : List ℕ) (is : chars text ≡ c ∷ 
       let same : d ≡ c = cc in
       other_mark k (d ∷ ds) (sym (spells_lead k d ds s) ∙ ap lead same ∙ otherwise) s
 
-  pub mark_longest : (m : Mark) (rest : List ℕ) → chars text ≡ mark_text m ++ rest → mark_at text ≡ Some m → (more after : List ℕ) (k : Kind) → rest ≡ more ++ after → Spells k (mark_text m ++ more) → more ≡ []
+  pub mark_longest : (m : Mark) (rest : List ℕ) → chars text ≡ mark_text m ++ rest → front_mark text ≡ Some m → (more after : List ℕ) (k : Kind) → rest ≡ more ++ after → Spells k (mark_text m ++ more) → more ≡ []
   mark_longest m rest e found more after k split s =
       let whole : chars text ≡ (mark_text m ++ more) ++ after = e ∙ ap (λ (l : List ℕ). mark_text m ++ l) split ∙ sym (append_assoc (mark_text m) more after) in
       let n = a_mark k (mark_text m ++ more) after whole s in
       let bytes = encoded_mark n.0 text after (whole ∙ ap (λ (l : List ℕ). l ++ after) n.1) utf8 in
       nil_from_length more (omega (arith, mark_greatest n.0 m text (encode_utf8_all after) bytes found, ap length n.1, length-append (mark_text m) more))
 
-  pub no_mark : mark_at text ≡ None → (k : Kind) (front rest : List ℕ) → chars text ≡ front ++ rest → Spells k front → ⊥
+  pub no_mark : front_mark text ≡ None → (k : Kind) (front rest : List ℕ) → chars text ≡ front ++ rest → Spells k front → ⊥
   no_mark none k front rest e s =
       let n = a_mark k front rest e s in
-      mark_found n.0 (encode_utf8_all rest) (sym (ap mark_at (encoded_mark n.0 text rest (e ∙ ap (λ (l : List ℕ). l ++ rest) n.1) utf8)) ∙ none)
+      mark_found n.0 (encode_utf8_all rest) (sym (ap front_mark (encoded_mark n.0 text rest (e ∙ ap (λ (l : List ℕ). l ++ rest) n.1) utf8)) ∙ none)

@@ -13,7 +13,7 @@ use Rattle.utopist_lexer.specs.Characters.{is_start, starts_otherwise}
 use Rattle.utopist_lexer.specs.Spelling.{mark_text}
 use Rattle.utopist_lexer.specs.Lexical.{IsLongest, IsToken}
 use Rattle.utopist_lexer.specs.Faults.{Faulty, IsLoneDollar}
-use Rattle.utopist_lexer.specs.Tables.{mark_at}
+use Rattle.utopist_lexer.specs.Tables.{front_mark}
 use Rattle.utopist_lexer.specs.Cutting.{Parts, StartsBy}
 use Rattle.utopist_lexer.proofs.Spellings.{mark_some}
 use Rattle.utopist_lexer.proofs.Leads.{lead, other, other_lead, mark_ascii}
@@ -30,7 +30,7 @@ none_of false false false e = (refl, refl, refl)
 otherwise_lead : (c : ℕ) → starts_otherwise c ≡ true → lead c ≡ other
 otherwise_lead c h = let n = none_of (is_start c) (is_ascii_digit c) (eqb c 36) h in other_lead c n.0 n.1 n.2
 
-module _ (text : List ℕ) (m : Mark) (mark : List ℕ) (u : IsUtf8 text) (found : mark_at text ≡ Some m) (is : mark ≡ mark_text m) where
+module _ (text : List ℕ) (m : Mark) (mark : List ℕ) (u : IsUtf8 text) (found : front_mark text ≡ Some m) (is : mark ≡ mark_text m) where
   abbrev there : (rest : List ℕ) × (text ≡ mark_text m ++ rest)
   there = mark_at-some text m found
 
@@ -61,7 +61,7 @@ no_dollar [] c ds e h l = l
 no_dollar (d ∷ []) c ds e h l = let same : c ≡ 36 = cc in absurd (grind (arith, nat_tests))
 no_dollar (d ∷ b ∷ bs) c ds e h l = let same : c ≡ 36 = cc (l.0) in absurd (grind (arith, nat_tests))
 
-pub mark_fault : (text : List ℕ) → IsUtf8 text → StartsBy starts_otherwise text → mark_at text ≡ None → Faulty fault.BadChar (chars text)
+pub mark_fault : (text : List ℕ) → IsUtf8 text → StartsBy starts_otherwise text → front_mark text ≡ None → Faulty fault.BadChar (chars text)
 mark_fault text u s none =
     let n = none_of (is_start s.0) (is_ascii_digit s.0) (eqb s.0 36) s.3 in
     (no_dollar (chars text) s.0 s.1 s.2 n.2, no_mark text s.0 s.1 s.2 (encodes-chars text u) (otherwise_lead s.0 s.3) none)

@@ -17,7 +17,7 @@ use Rattle.utopist_lexer.specs.Places.{first_place, place_behind, Stands}
 use Rattle.utopist_lexer.specs.Lexical.{Tok, AreDigits, value_of, Spells, IsLongest, IsFree, IsNumeral, Within, IsToken, max_number}
 use Rattle.utopist_lexer.specs.Faults.{Front, Faulty, IsLoneDollar}
 use Rattle.utopist_lexer.specs.Tokens.{ReadsTo}
-use Rattle.utopist_lexer.specs.Tables.{word_of, mark_at}
+use Rattle.utopist_lexer.specs.Tables.{word_of, front_mark}
 use Rattle.utopist_lexer.specs.OneReading.{OneList, OneFault, NotBoth}
 use Rattle.utopist_lexer.specs.Spelling.{word_text, mark_text}
 use Rattle.utopist_lexer.proofs.Splits.{Splits, fronts_split}
@@ -33,7 +33,7 @@ word_same : (v w : Word) → word_text v ≡ word_text w → v ≡ w
 word_same v w e = some_same v w (sym (word_of-text v) ∙ ap word_of e ∙ word_of-text w)
 
 mark_same : (m n : Mark) → mark_text m ≡ mark_text n → m ≡ n
-mark_same m n e = some_same m n (sym (mark_at-text m) ∙ ap mark_at e ∙ mark_at-text n)
+mark_same m n e = some_same m n (sym (mark_at-text m) ∙ ap front_mark e ∙ mark_at-text n)
 
 kind_at : (k j : Kind) (text : List ℕ) → lead_of k ≡ lead_of j → Spells k text → Spells j text → k ≡ j
 kind_at kinds.Name kinds.Name text e s r = refl

@@ -8,7 +8,7 @@ use Rattle.utopist_lexer.specs.declared.word.Word.TheVariants as words
 use Rattle.utopist_lexer.specs.declared.mark.Mark.{Mark}
 use Rattle.utopist_lexer.specs.declared.mark.Mark.TheVariants as marks
 use Rattle.utopist_lexer.specs.Spelling.{word_text, mark_text}
-use Rattle.utopist_lexer.specs.Tables.{word_of, mark_at}
+use Rattle.utopist_lexer.specs.Tables.{word_of, front_mark}
 
 -- ---- keywords
 
@@ -82,7 +82,7 @@ mark_signs marks.Star = refl
 mark_signs marks.Slash = refl
 mark_signs marks.Arrow = refl
 
-pub mark_at-text : (m : Mark) → mark_at (mark_text m) ≡ Some m
+pub mark_at-text : (m : Mark) → front_mark (mark_text m) ≡ Some m
 mark_at-text marks.OpenRound = refl
 mark_at-text marks.CloseRound = refl
 mark_at-text marks.OpenSquare = refl
@@ -123,7 +123,7 @@ mark_some marks.Slash = lit≤ tt
 mark_some marks.Arrow = lit≤ tt
 
 -- no mark at the front is longer than the one that is found
-pub mark_greatest : (n m : Mark) (text after : List ℕ) → text ≡ mark_text n ++ after → mark_at text ≡ Some m → length (mark_text n) ≤ length (mark_text m)
+pub mark_greatest : (n m : Mark) (text after : List ℕ) → text ≡ mark_text n ++ after → front_mark text ≡ Some m → length (mark_text n) ≤ length (mark_text m)
 mark_greatest marks.OpenRound m text after is e = mark_some m
 mark_greatest marks.CloseRound m text after is e = mark_some m
 mark_greatest marks.OpenSquare m text after is e = mark_some m
@@ -137,14 +137,14 @@ mark_greatest marks.Dot m text after is e = mark_some m
 mark_greatest marks.Equal m text after is e = mark_some m
 mark_greatest marks.Less m text after is e = mark_some m
 mark_greatest marks.AtMost m text after is e =
-    let both : Some marks.AtMost ≡ Some m = sym (ap mark_at is) ∙ e in
+    let both : Some marks.AtMost ≡ Some m = sym (ap front_mark is) ∙ e in
     let same : marks.AtMost ≡ m = cc in subst (λ x. 2 ≤ length (mark_text x)) same (lit≤ tt)
 mark_greatest marks.Plus m text after is e = mark_some m
 mark_greatest marks.Minus m text after is e = mark_some m
 mark_greatest marks.Star m text after is e = mark_some m
 mark_greatest marks.Slash m text after is e = mark_some m
 mark_greatest marks.Arrow m text after is e =
-    let both : Some marks.Arrow ≡ Some m = sym (ap mark_at is) ∙ e in
+    let both : Some marks.Arrow ≡ Some m = sym (ap front_mark is) ∙ e in
     let same : marks.Arrow ≡ m = cc in subst (λ x. 2 ≤ length (mark_text x)) same (lit≤ tt)
 
 one_of : (b : Bool) (m n : Mark) → cond b (Some m) (Some n) ≡ None → ⊥
@@ -152,7 +152,7 @@ one_of true m n e = cc
 one_of false m n e = cc
 
 -- where a mark stands at the front, one is found
-pub mark_found : (m : Mark) (after : List ℕ) → mark_at (mark_text m ++ after) ≡ None → ⊥
+pub mark_found : (m : Mark) (after : List ℕ) → front_mark (mark_text m ++ after) ≡ None → ⊥
 mark_found marks.OpenRound after e = cc
 mark_found marks.CloseRound after e = cc
 mark_found marks.OpenSquare after e = cc

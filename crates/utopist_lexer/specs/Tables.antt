@@ -13,5 +13,5 @@ abbrev pub word_of : List ℕ → Option Word
 word_of text = find (λ w. bytes_eq (word_text w) text) WORDS
 
 -- the mark at the front, or none; the longer one where one begins with the other
-abbrev pub mark_at : List ℕ → Option Mark
-mark_at text = find (λ m. starts_with nat_eq text (mark_text m)) MARKS
+abbrev pub front_mark : List ℕ → Option Mark
+front_mark text = find (λ m. starts_with nat_eq text (mark_text m)) MARKS

@@ -4,7 +4,7 @@ ghost use Rattle.std.specs.Str.{chars};
 ghost use Rattle.utopist_lexer.specs.Characters.{is_start, has, starts_otherwise};
 ghost use Rattle.utopist_lexer.specs.Lexical.{IsFree};
 ghost use Rattle.utopist_lexer.specs.Cutting.{StartsBy, StartsWith, TokenOf, FrontOf};
-ghost use Rattle.utopist_lexer.specs.Tables.{word_of, mark_at};
+ghost use Rattle.utopist_lexer.specs.Tables.{word_of, front_mark};
 
 use crate::classes::{Class, is_continue, is_start};
 use crate::cut::cut_before;
@@ -96,7 +96,7 @@ fn mark_of(text: &str) -> Result<(Kind, &str, &str), LexKind>
     requires { StartsBy starts_otherwise text.now }
     ensures { TokenOf text.now result }
 {
-    match mark_at(text.as_bytes()) {
+    match front_mark(text.as_bytes()) {
         Some(mark) => {
             let (front, rest) = text.split_at(mark.text().len());
             Ok((Kind::Mark(mark), front, rest))
@@ -121,8 +121,8 @@ fn word_of(text: &str) -> Option<Word>
     WORDS.iter().copied().find(|w| w.text() == text.as_bytes())
 }
 
-fn mark_at(text: &[u8]) -> Option<Mark>
-    ensures { result ≡ mark_at text.now }
+fn front_mark(text: &[u8]) -> Option<Mark>
+    ensures { result ≡ front_mark text.now }
 {
     MARKS.iter().copied().find(|m| text.starts_with(m.text()))
 }

@@ -2,10 +2,10 @@
 use Rattle.std.proofs.Common.{◌≡◌, ℕ, ◌<◌, max, true, false, List, [], ◌∷◌, ◌++◌, length, Ok, refl, sym, ap, ◌∙◌, arith}
 use Rattle.utopist_lexer.specs.declared.mark.Mark.TheVariants as marks
 use Rattle.utopist_syntax.specs.declared.expr.Expr.{Expr}
-use Rattle.utopist_syntax.specs.Tree.{Trees, none, more}
+use Rattle.utopist_syntax.specs.ExprTree.{ExprTrees, none, more}
 use Rattle.utopist_syntax.specs.View.{tree_of, trees_of}
 use Rattle.utopist_parser.specs.declared.breadth.Breadth.{Breadth}
-use Rattle.utopist_parser.specs.declared.stop.Stop.{Stop}
+use Rattle.utopist_parser.specs.declared.parse_stop.ParseStop.{ParseStop}
 use Rattle.utopist_parser.specs.Symbols.{Symbol}
 use Rattle.utopist_parser.specs.Steps.{Reading, on_ok, next, meets}
 use Rattle.utopist_parser.specs.Single.{is_mark}
@@ -32,7 +32,7 @@ trees_more (a ∷ front) (x ∷ args) v arg h i =
 
 module _ (b : Breadth) (room : ℕ) (ts : List Symbol) where
   -- all arguments, and the most of their nestings
-  abbrev pub all_arguments : Reading (Trees × ℕ)
+  abbrev pub all_arguments : Reading (ExprTrees × ℕ)
   all_arguments = on_ok (separated_at marks.Comma (settled (expr_at b room)) 63 ts) (λ p. Ok ((trees_in p.0, most p.0), p.1))
 
   -- the arguments so far, and the most of their nestings
@@ -52,15 +52,15 @@ module _ (b : Breadth) (room : ℕ) (ts : List Symbol) where
   }
 
   -- where the list fails, so do the arguments
-  all_fail : (e : Stop) → Fails e (separated_at marks.Comma (settled (expr_at b room)) 63 ts) → Fails e all_arguments
+  all_fail : (e : ParseStop) → Fails e (separated_at marks.Comma (settled (expr_at b room)) 63 ts) → Fails e all_arguments
   all_fail e h = fails_on e (separated_at marks.Comma (settled (expr_at b room)) 63 ts) all_arguments (λ x i. rw i refl) h
 
   -- the first argument fails
-  pub no_argument : (e : Stop) → Fails e (expr_at b room ts) → Fails e all_arguments
+  pub no_argument : (e : ParseStop) → Fails e (expr_at b room ts) → Fails e all_arguments
   no_argument e h = all_fail e (separated_fails marks.Comma (settled (expr_at b room)) e ts h)
 
   -- a further argument fails
-  pub argument_fails : (e : Stop) (args : List Expr) (nest : ℕ) (rest : List Symbol) → true ≡ meets (is_mark marks.Comma) (next rest) → Fails e (next_at marks.Comma (settled (expr_at b room)) 63 rest) → Arguments args nest rest → Fails e all_arguments
+  pub argument_fails : (e : ParseStop) (args : List Expr) (nest : ℕ) (rest : List Symbol) → true ≡ meets (is_mark marks.Comma) (next rest) → Fails e (next_at marks.Comma (settled (expr_at b room)) 63 rest) → Arguments args nest rest → Fails e all_arguments
   argument_fails e args nest rest more_comes h so_far = all_fail e (fails (is_mark marks.Comma) (next_at marks.Comma (settled (expr_at b room)) 63) e so_far.front rest _ more_comes h so_far.gives)
 
   -- one more argument, as it was pushed

@@ -3,9 +3,9 @@ use Rattle.std.proofs.Common.{◌≡◌, ℕ, zero, suc, true, false, List, leng
 use Rattle.utopist_lexer.specs.declared.mark.Mark.TheVariants as marks
 use Rattle.utopist_lexer.specs.declared.token.Kind.TheVariants as kinds
 use Rattle.utopist_parser.specs.declared.breadth.Breadth.{Breadth}
-use Rattle.utopist_parser.specs.declared.stop.Stop.{Stop}
+use Rattle.utopist_parser.specs.declared.parse_stop.ParseStop.{ParseStop}
 use Rattle.utopist_parser.specs.Symbols.{Symbol}
-use Rattle.utopist_parser.specs.Steps.{Reading, Fault, deep, next, meets, deeper}
+use Rattle.utopist_parser.specs.Steps.{Reading, Miss, deep, next, meets, deeper}
 use Rattle.utopist_parser.specs.Single.{is_mark, is_kind}
 use Rattle.utopist_parser.specs.ReadingExpr.{settled, begins_call, begins_loop, begins_choice, negated_step, round_step, call_step, loop_step, choice_step, literal_step, variable_step, levels_within, factor_at, chain_at, expr_at}
 use Rattle.utopist_parser.specs.Answers.{Fails}
@@ -13,10 +13,10 @@ use Rattle.utopist_parser.proofs.Loops.{fails_on}
 use Rattle.utopist_parser.proofs.Rooms.{negated_same, round_same, call_same, loop_same, choice_same, literal_same, variable_same}
 
 -- where there is no room for a part, nothing one level deeper is read
-pub no_room : {V W : Type 0} (e : Stop) (room : ℕ) (ts : List Symbol) (v : V × List Symbol) (read : Reading W) → Fails e (deeper room ts (Ok v)) → Fails e (deeper room ts read)
+pub no_room : {V W : Type 0} (e : ParseStop) (room : ℕ) (ts : List Symbol) (v : V × List Symbol) (read : Reading W) → Fails e (deeper room ts (Ok v)) → Fails e (deeper room ts read)
 no_room {V} {W} e room ts v read h = fails_on e (deeper room ts (Ok v)) (deeper room ts read) (go room) h where
-  go : (n : ℕ) (x : Fault) → deeper n ts (Ok v) ≡ Err x → deeper n ts read ≡ Err x
-  go zero x i = let same : (deep, length ts) ≡ x = cc in ap (λ (y : Fault). Err y) same
+  go : (n : ℕ) (x : Miss) → deeper n ts (Ok v) ≡ Err x → deeper n ts read ≡ Err x
+  go zero x i = let same : (deep, length ts) ≡ x = cc in ap (λ (y : Miss). Err y) same
   go (suc n) x i = absurd cc
 
 module _ (b : Breadth) (room : ℕ) (ts : List Symbol) where

@@ -2,7 +2,7 @@
 use Rattle.std.proofs.Common.{◌≡◌, ℕ, ◌≤◌, Bool, true, false, cond, List, [], ◌∷◌, ◌++◌, Option, Ok, Err, refl, sym, subst, ◌∙◌, inl, inr}
 use Rattle.std.specs.Prelude.{◌⊎◌}
 use Rattle.utopist_parser.specs.Symbols.{Symbol}
-use Rattle.utopist_parser.specs.Steps.{Why, expected, deep, Fault, StepOf, give, next, meets, choose_at}
+use Rattle.utopist_parser.specs.Steps.{Why, expected, deep, Miss, StepOf, give, next, meets, choose_at}
 use Rattle.utopist_parser.proofs.StepLaws.{AtHead, at_head, Form, Stuck, Further, Took, Blames, AgainAt, Laws, Aspect, again_only, all_laws, Keeps, ok_is, same_next}
 
 module _ {X Y : Type 0} (g : Form X) (d : Form Y) where
@@ -55,7 +55,7 @@ module _ {X Y V : Type 0} (g : Form X) (see_x : X → V) (d : Form Y) (see_y : Y
       go true i h = let t = a.take ts v (enters_x _ i n) h in record { part = inl t.part; seen = t.seen; parts = t.parts; fits = t.fits; stops = t.stops }
       go false i h = let t = b.take ts v (enters_y _ i n) h in record { part = inr t.part; seen = t.seen; parts = t.parts; fits = t.fits; stops = t.stops }
 
-    choose_blames : (ts : List Symbol) (e : Fault) → E (next ts) → choose_at begins f k room ts ≡ Err e → Blames whole (choose_at begins f k) room ts e
+    choose_blames : (ts : List Symbol) (e : Miss) → E (next ts) → choose_at begins f k room ts ≡ Err e → Blames whole (choose_at begins f k) room ts e
     choose_blames ts e n h = go (meets begins (next ts)) refl h where
       x_stuck : (front wrong : List Symbol) (why : Why) → meets begins (next (front ++ wrong)) ≡ true → AtHead wrong (Stuck f room why front) → AtHead wrong (Stuck (choose_at begins f k) room why front)
       x_stuck front [] why i s = tt

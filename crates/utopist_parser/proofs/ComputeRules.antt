@@ -18,7 +18,7 @@ use Rattle.utopist_parser.specs.WrittenFile.{WrittenNumber, WrittenGiven, Writte
 use Rattle.utopist_parser.specs.ExprTree.{all_of}
 use Rattle.utopist_parser.specs.FileSymbols.{spell_option, spell_minus, spell_below, spell_value, spell_given, spell_givens, spell_compute}
 use Rattle.utopist_parser.specs.FileSeen.{see_option, see_path, denominator, see_value, see_given, see_compute}
-use Rattle.utopist_parser.specs.ReadingFile.{minus_at, negative_at, some_below_at, below_at, some_value_at, value_at, given_at, some_givens_at, givens_at, compute_at}
+use Rattle.utopist_parser.specs.ReadingFile.{minus_at, negative_at, some_below_at, below_at, some_value_at, given_value_at, given_at, some_givens_at, givens_at, compute_at}
 use Rattle.utopist_parser.proofs.StepLaws.{Form, Aspect}
 use Rattle.utopist_parser.proofs.Sequence.{both}
 use Rattle.utopist_parser.proofs.Recast.{recast}
@@ -170,7 +170,7 @@ given_seen g = at g.value where
   at (Some x) = refl
 
 given_rule : {m : Aspect} {room : ℕ} → Rule m room given_form see_given given_at
-unfolding given_at value_at
+unfolding given_at given_value_at
 given_rule =
     recast_rule {g = given_pair} {see = see_pair} spell_given see_given (λ p. record { path = p.0; value = p.1 }) (λ g. (g.path, g.value)) (λ p. refl) given_spelled given_seen
     (with_option_rule (is_mark marks.Equal) None (λ p v. record { path = p; value = v }) (λ x rest. refl) (λ p o s. path_stops p o (meets_other (kinds.Mark marks.Equal) (kinds.Mark marks.Dot) o refl s)) path_rule number_value_rule)

@@ -9,8 +9,8 @@ use Rattle.utopist_lexer.specs.declared.word.Word.TheVariants as words
 use Rattle.utopist_lexer.specs.declared.mark.Mark.TheVariants as marks
 use Rattle.utopist_lexer.specs.declared.token.Kind.TheVariants as kinds
 use Rattle.utopist_syntax.specs.Named.{Named}
-use Rattle.utopist_syntax.specs.Tree as tree
-use Rattle.utopist_syntax.specs.Tree.{Trees}
+use Rattle.utopist_syntax.specs.ExprTree as tree
+use Rattle.utopist_syntax.specs.ExprTree.{ExprTrees}
 use Rattle.utopist_parser.specs.declared.breadth.Breadth.{Breadth}
 use Rattle.utopist_parser.specs.declared.breadth.Breadth.TheVariants as breadth
 use Rattle.utopist_parser.specs.Symbols.{Symbol, name, sub, fixed, mark}
@@ -54,7 +54,7 @@ list_spelled (and_then e more) = ap (λ l. mark marks.Comma ∷ (spell_expr e ++
 
 list_trees : (es : Further) → trees_in (map seen_expr (to_list es)) ≡ see_exprs es
 list_trees no_more = refl
-list_trees (and_then e more) = ap (λ (ts : Trees). tree.more (see_expr e) ts) (list_trees more)
+list_trees (and_then e more) = ap (λ (ts : ExprTrees). tree.more (see_expr e) ts) (list_trees more)
 
 list_most : (es : Further) → most (map seen_expr (to_list es)) ≡ nest_exprs es
 list_most no_more = refl

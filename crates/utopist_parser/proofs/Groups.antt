@@ -4,8 +4,8 @@ use Rattle.std.specs.Prelude.{nat_le, ◌⊎◌}
 use Rattle.std.proofs.lemmas.List.{append-nil}
 use Rattle.body_lang.specs.declared.op.Op.{Op}
 use Rattle.utopist_parser.specs.Symbols.{Symbol}
-use Rattle.utopist_parser.specs.Steps.{Why, expected, deep, Fault, Reading, ReadOf, StepOf, on_ok, next}
-use Rattle.utopist_parser.specs.ReadingExpr.{Nested, joined, one_more, more_at, group_at}
+use Rattle.utopist_parser.specs.Steps.{Why, expected, deep, Miss, Reading, ReadOf, StepOf, on_ok, next}
+use Rattle.utopist_parser.specs.ReadingExpr.{Nested, op_over, one_more, more_at, group_at}
 use Rattle.utopist_parser.proofs.StepLaws.{Reaches, reaches_up, AtHead, at_head, Form, Stuck, Further, Took, Blames, AgainAt, Laws, Aspect, again_only, all_laws, Keeps, failed_is, ok_is, then_ok, then_err}
 use Rattle.utopist_parser.proofs.Levels.{level, below, IfRoom, Rounds}
 
@@ -32,7 +32,7 @@ pub record Grouping (S A O : Type 0) : Type 1 where
   pub spell_one : (x : S) → spell (one x) ≡ spell_part x
   pub see_one : (x : S) → see (one x) ≡ see_part x
   pub spell_join : (a : A) (o : O) (x : S) → spell (join a o x) ≡ spell a ++ (sign o ∷ spell_part x)
-  pub see_join : (a : A) (o : O) (x : S) → see (join a o x) ≡ joined (op_of o) (see a) (see_part x)
+  pub see_join : (a : A) (o : O) (x : S) → see (join a o x) ≡ op_over (op_of o) (see a) (see_part x)
   pub allow_one : (x : S) → AllowedPart x → Allowed (one x)
   pub one_allowed : (x : S) → Allowed (one x) → AllowedPart x
   pub allow_join : (a : A) (o : O) (x : S) → Allowed a → AllowedPart x → Allowed (join a o x)
@@ -115,7 +115,7 @@ module _ {S A O : Type 0} (g : Grouping S A O) (first operand : StepOf Nested) (
 
 -- ---- what is read is spelled
 
-guard_ok : (a b : ℕ) (x : Reading Nested) (d : Fault) (y : Nested × List Symbol) → cond (nat_le a b) x (Err d) ≡ Ok y → (a ≤ b) × (x ≡ Ok y)
+guard_ok : (a b : ℕ) (x : Reading Nested) (d : Miss) (y : Nested × List Symbol) → cond (nat_le a b) x (Err d) ≡ Ok y → (a ≤ b) × (x ≡ Ok y)
 guard_ok a b x d y e = go (nat_le a b) refl e where
   go : (t : Bool) → nat_le a b ≡ t → cond t x (Err d) ≡ Ok y → (a ≤ b) × (x ≡ Ok y)
   go true i e = (grind (arith, i), e)
@@ -129,13 +129,13 @@ one_more_ok : (o : Option Op) (room : ℕ) (v : Nested) (ts : List Symbol) (go_o
 one_more_ok None room v ts go_on y e = inl (refl, e)
 one_more_ok (Some p) room v ts go_on y e = let h = guard_ok v.1 room (go_on p) (deep, length ts) y e in inr (p, refl, h.0, h.1)
 
-guard_err : (a b : ℕ) (x : Reading Nested) (d e : Fault) → cond (nat_le a b) x (Err d) ≡ Err e → ((b < a) × (d ≡ e)) ⊎ ((a ≤ b) × (x ≡ Err e))
+guard_err : (a b : ℕ) (x : Reading Nested) (d e : Miss) → cond (nat_le a b) x (Err d) ≡ Err e → ((b < a) × (d ≡ e)) ⊎ ((a ≤ b) × (x ≡ Err e))
 guard_err a b x d e h = go (nat_le a b) refl h where
   go : (t : Bool) → nat_le a b ≡ t → cond t x (Err d) ≡ Err e → ((b < a) × (d ≡ e)) ⊎ ((a ≤ b) × (x ≡ Err e))
   go true i h = inr (grind (arith, i), h)
   go false i h = inl (grind (arith, i), failed_is Nested d e h)
 
-one_more_err : (o : Option Op) (room : ℕ) (v : Nested) (ts : List Symbol) (go_on : Op → Reading Nested) (e : Fault) → one_more o room v ts go_on ≡ Err e →
+one_more_err : (o : Option Op) (room : ℕ) (v : Nested) (ts : List Symbol) (go_on : Op → Reading Nested) (e : Miss) → one_more o room v ts go_on ≡ Err e →
     (p : Op) × (o ≡ Some p) × (((room < v.1) × ((deep, length ts) ≡ e)) ⊎ ((v.1 ≤ room) × (go_on p ≡ Err e)))
 one_more_err None room v ts go_on e h = absurd cc
 one_more_err (Some p) room v ts go_on e h = (p, refl, guard_err v.1 room (go_on p) (deep, length ts) e h)
@@ -152,8 +152,8 @@ module _ {S A O : Type 0} (g : Grouping S A O) where
   joins a o x ts cs rest e i =
       ap (λ l. g.spell a ++ l) (e ∙ ap (λ l. g.sign o ∷ l) i) ∙ sym (append_assoc (g.spell a) (g.sign o ∷ g.spell_part x) rest) ∙ ap (λ l. l ++ rest) (sym (g.spell_join a o x))
 
-  joins_seen : (a : A) (o : O) (x : S) (p : Op) (v : Nested) → g.op_of o ≡ p → g.see_part x ≡ v → joined p (g.see a) v ≡ g.see (g.join a o x)
-  joins_seen a o x p v e i = ap (λ q. joined q (g.see a) v) (sym e) ∙ ap (λ w. joined (g.op_of o) (g.see a) w) (sym i) ∙ sym (g.see_join a o x)
+  joins_seen : (a : A) (o : O) (x : S) (p : Op) (v : Nested) → g.op_of o ≡ p → g.see_part x ≡ v → op_over p (g.see a) v ≡ g.see (g.join a o x)
+  joins_seen a o x p v e i = ap (λ q. op_over q (g.see a) v) (sym e) ∙ ap (λ w. op_over (g.op_of o) (g.see a) w) (sym i) ∙ sym (g.see_join a o x)
 
   joins_within : (a : A) (o : O) (x : S) (room : ℕ) → (g.see a).1 ≤ room → (g.see_part x).1 ≤ room → (g.see (g.join a o x)).1 ≤ suc room
   joins_within a o x room h i = subst (λ (v : Nested). v.1 ≤ suc room) (sym (g.see_join a o x)) (let m : suc (max (g.see a).1 (g.see_part x).1) ≤ suc room = omega (arith, h, i) in m)
@@ -186,11 +186,11 @@ module _ {S A O : Type 0} (g : Grouping S A O) (first operand : StepOf Nested) (
         | inr m ↦ absurd (let z = m.3 in cc)
       ]
   more_take (suc left) a ts v h n s e =
-      elim (one_more_ok (g.find (next ts)) room (g.see a) ts (λ o. on_ok (operand room (drop 1 ts)) (λ x. more_at g.find (operand room) room left (joined o (g.see a) x.0) x.1)) v e) [
+      elim (one_more_ok (g.find (next ts)) room (g.see a) ts (λ o. on_ok (operand room (drop 1 ts)) (λ x. more_at g.find (operand room) room left (op_over o (g.see a) x.0) x.1)) v e) [
         | inl y ↦ ends_here a ts v h n s y.0 y.1
         | inr m ↦
             let o = at_sign g ts m.0 m.1 in
-            let b = then_ok (operand room (drop 1 ts)) (λ x. more_at g.find (operand room) room left (joined m.0 (g.see a) x.0) x.1) v m.3 in
+            let b = then_ok (operand room (drop 1 ts)) (λ x. more_at g.find (operand room) room left (op_over m.0 (g.see a) x.0) x.1) v m.3 in
             let t = (operand_laws a m.2).take (drop 1 ts) b.0 tt b.1 in
             let cs : o.1 ≡ g.spell_part t.part ++ b.0.1 = sym (ap (drop 1) o.2) ∙ t.parts in
             let on : more_at g.find (operand room) room left (g.see (g.join a o.0 t.part)) b.0.1 ≡ Ok v = subst (λ w. more_at g.find (operand room) room left w b.0.1 ≡ Ok v) (joins_seen g a o.0 t.part m.0 b.0.0 o.3 t.seen) b.2 in
@@ -221,7 +221,7 @@ module _ {S A O : Type 0} (g : Grouping S A O) (first operand : StepOf Nested) (
         let c = comes g first operand M (a_first.again M) (operand_again M) a (omega (arith, h, r), n) (g.sign o ∷ more) (g.sign_stops a o) in c.same ∙ on_deep c.left M a o more (omega (arith, i, r));
   }
 
-  on_operand : (left M : ℕ) (a : A) (o : O) (ts : List Symbol) (e : Fault) → M < left + (g.see a).1 → (g.see a).1 ≤ M → operand M ts ≡ Err e → more_at g.find (operand M) M left (g.see a) (g.sign o ∷ ts) ≡ Err e
+  on_operand : (left M : ℕ) (a : A) (o : O) (ts : List Symbol) (e : Miss) → M < left + (g.see a).1 → (g.see a).1 ≤ M → operand M ts ≡ Err e → more_at g.find (operand M) M left (g.see a) (g.sign o ∷ ts) ≡ Err e
   unfolding more_at
   on_operand zero M a o ts e k h i = absurd (omega (arith, k, h))
   on_operand (suc left) M a o ts e k h i = rw (g.found o, le_true _ _ h, i) refl
@@ -246,7 +246,7 @@ module _ {S A O : Type 0} (g : Grouping S A O) (first operand : StepOf Nested) (
         (joins_within g a o f.0 (max f.3 room) (omega (arith, h)) (omega (arith, i)), g.allow_join a o f.0 n f.4.1),
       )
 
-  abbrev WholeBlames : List Symbol → Fault → Type 0
+  abbrev WholeBlames : List Symbol → Miss → Type 0
   WholeBlames ts e = Blames (group_form g) Group room ts e
 
   deep_here : (a : A) (o : O) (ts cs : List Symbol) → (g.see a).1 ≤ suc room → g.Allowed a → room < (g.see a).1 → ts ≡ g.sign o ∷ cs → WholeBlames (g.spell a ++ ts) (deep, length ts)
@@ -269,7 +269,7 @@ module _ {S A O : Type 0} (g : Grouping S A O) (first operand : StepOf Nested) (
     );
   }
 
-  part_blames : (a : A) (o : O) (ts cs : List Symbol) (e : Fault) → (g.see a).1 ≤ room → g.Allowed a → ts ≡ g.sign o ∷ cs → Blames (operand_form g) operand room cs e → WholeBlames (g.spell a ++ ts) e
+  part_blames : (a : A) (o : O) (ts cs : List Symbol) (e : Miss) → (g.see a).1 ≤ room → g.Allowed a → ts ≡ g.sign o ∷ cs → Blames (operand_form g) operand room cs e → WholeBlames (g.spell a ++ ts) e
   part_blames a o ts cs e h n is b = record {
     front = g.spell a ++ (g.sign o ∷ b.front);
     wrong = b.wrong;
@@ -283,7 +283,7 @@ module _ {S A O : Type 0} (g : Grouping S A O) (first operand : StepOf Nested) (
     further = at_head (Further (operand_form g) e.0 b.front) (Further (group_form g) e.0 (g.spell a ++ (g.sign o ∷ b.front))) (λ c s. part_further a o h n e.0 b.front c s) b.wrong b.further;
   }
 
-  more_blames : (left : ℕ) (a : A) (ts : List Symbol) (e : Fault) → room < left + (g.see a).1 → (g.see a).1 ≤ suc room → g.Allowed a → more_at g.find (operand room) room left (g.see a) ts ≡ Err e → WholeBlames (g.spell a ++ ts) e
+  more_blames : (left : ℕ) (a : A) (ts : List Symbol) (e : Miss) → room < left + (g.see a).1 → (g.see a).1 ≤ suc room → g.Allowed a → more_at g.find (operand room) room left (g.see a) ts ≡ Err e → WholeBlames (g.spell a ++ ts) e
   unfolding more_at
   more_blames zero a ts e k h n i =
       let m = one_more_err (g.find (next ts)) room (g.see a) ts (λ o. Err (deep, length ts)) e i in
@@ -293,13 +293,13 @@ module _ {S A O : Type 0} (g : Grouping S A O) (first operand : StepOf Nested) (
         | inr y ↦ absurd (let z = y.0 in omega (arith, z, k))
       ]
   more_blames (suc left) a ts e k h n i =
-      let m = one_more_err (g.find (next ts)) room (g.see a) ts (λ o. on_ok (operand room (drop 1 ts)) (λ x. more_at g.find (operand room) room left (joined o (g.see a) x.0) x.1)) e i in
+      let m = one_more_err (g.find (next ts)) room (g.see a) ts (λ o. on_ok (operand room (drop 1 ts)) (λ x. more_at g.find (operand room) room left (op_over o (g.see a) x.0) x.1)) e i in
       let o = at_sign g ts m.0 m.1 in
       let cs : drop 1 ts ≡ o.1 = ap (drop 1) o.2 in
       elim m.2 [
         | inl d ↦ subst (λ q. WholeBlames (g.spell a ++ ts) q) d.1 (deep_here a o.0 ts o.1 h n d.0 o.2)
         | inr y ↦
-            elim (then_err (operand room (drop 1 ts)) (λ x. more_at g.find (operand room) room left (joined m.0 (g.see a) x.0) x.1) e y.1) [
+            elim (then_err (operand room (drop 1 ts)) (λ x. more_at g.find (operand room) room left (op_over m.0 (g.see a) x.0) x.1) e y.1) [
               | inl bad ↦ part_blames a o.0 ts (drop 1 ts) e y.0 n (o.2 ∙ ap (λ l. g.sign o.0 ∷ l) (sym cs)) ((operand_laws a y.0).blames (drop 1 ts) e tt bad)
               | inr b ↦
                   let t = (operand_laws a y.0).take (drop 1 ts) b.0 tt b.1 in
@@ -311,7 +311,7 @@ module _ {S A O : Type 0} (g : Grouping S A O) (first operand : StepOf Nested) (
             ]
       ]
 
-  first_fails : (ts : List Symbol) (e : Fault) → Blames (part_form g) first room ts e → WholeBlames ts e
+  first_fails : (ts : List Symbol) (e : Miss) → Blames (part_form g) first room ts e → WholeBlames ts e
   first_fails ts e b = record {
     front = b.front;
     wrong = b.wrong;
@@ -328,7 +328,7 @@ module _ {S A O : Type 0} (g : Grouping S A O) (first operand : StepOf Nested) (
     first_further expected c f = tt
     first_further deep c f = (g.one f.0, f.1, g.spell_one f.0 ∙ f.2, f.3, (one_within g f.0 f.3 f.4.0, g.allow_one f.0 f.4.1))
 
-  group_blames : (ts : List Symbol) (e : Fault) → Group room ts ≡ Err e → WholeBlames ts e
+  group_blames : (ts : List Symbol) (e : Miss) → Group room ts ≡ Err e → WholeBlames ts e
   group_blames ts e h =
       elim (then_err (first room ts) (λ x. more_at g.find (operand room) room room x.0 x.1) e h) [
         | inl bad ↦ first_fails ts e (a_first.blames ts e tt bad)

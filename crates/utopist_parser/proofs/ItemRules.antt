@@ -11,7 +11,7 @@ use Rattle.utopist_syntax.specs.declared.item.Bind.{Bind}
 use Rattle.utopist_syntax.specs.declared.item.Part.{Part}
 use Rattle.utopist_syntax.specs.declared.item.Part.TheVariants as parts
 use Rattle.utopist_syntax.specs.Named.{Named}
-use Rattle.utopist_syntax.specs.Tree.{Tree}
+use Rattle.utopist_syntax.specs.ExprTree.{ExprTree}
 use Rattle.utopist_syntax.specs.FileTree as tree
 use Rattle.utopist_syntax.specs.FileTree.{ItemTree}
 use Rattle.utopist_parser.specs.declared.breadth.Breadth.TheVariants as breadth
@@ -330,7 +330,7 @@ some_body_rule {m} {room} =
 abbrev body_form : Form (Option Expression)
 body_form = optional some_body_form (is_mark marks.OpenCurly)
 
-abbrev see_body : Option Expression → Option Tree
+abbrev see_body : Option Expression → Option ExprTree
 see_body = see_optional (λ e. Some (see_expr e)) None
 
 body_rule : {m : Aspect} {room : ℕ} → Rule m room body_form see_body body_at

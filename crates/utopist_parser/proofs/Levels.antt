@@ -2,7 +2,7 @@
 use Rattle.std.proofs.Common.{◌≡◌, ℕ, zero, suc, ◌≤◌, Bool, true, false, cond, List, [], ◌∷◌, ◌++◌, length, Option, Some, Ok, Err, refl, sym, ap, subst, ◌∙◌, arith, inl, inr}
 use Rattle.std.specs.Prelude.{◌⊎◌}
 use Rattle.utopist_parser.specs.Symbols.{Symbol}
-use Rattle.utopist_parser.specs.Steps.{Why, expected, deep, Fault, Reading, ReadOf, StepOf, next, meets, choose_at, deeper, deeper_at}
+use Rattle.utopist_parser.specs.Steps.{Why, expected, deep, Miss, Reading, ReadOf, StepOf, next, meets, choose_at, deeper, deeper_at}
 use Rattle.utopist_parser.specs.ReadingExpr.{Nested}
 use Rattle.utopist_parser.proofs.StepLaws.{Reaches, AtHead, at_head, Form, Stuck, Further, Took, Blames, AgainAt, Laws, Aspect, again_only, all_laws, Keeps, Fitting, failed_is, same_next}
 use Rattle.utopist_parser.proofs.Choice.{either, see_either, choose_keeps}
@@ -178,7 +178,7 @@ module _ {X Y V : Type 0} (g : Form X) (see_x : X → V) (d : Form Y) (see_y : Y
     go true i h = absurd cc
     go false i h = let t = b.take ts v (enters_y _) h in record { part = inr t.part; seen = t.seen; parts = t.parts; fits = t.fits; stops = t.stops }
 
-  none_blames : (a : (M : ℕ) → AgainAt g see_x f M) → Laws d see_y k zero → (some : Y) → d.Fits some zero → (ts : List Symbol) (e : Fault) → whole_at zero ts ≡ Err e → Blames whole whole_at zero ts e
+  none_blames : (a : (M : ℕ) → AgainAt g see_x f M) → Laws d see_y k zero → (some : Y) → d.Fits some zero → (ts : List Symbol) (e : Miss) → whole_at zero ts ≡ Err e → Blames whole whole_at zero ts e
   none_blames a b some fits ts e h = go (meets begins (next ts)) refl h where
     y_stuck : (front wrong : List Symbol) (why : Why) → meets begins (next (front ++ wrong)) ≡ false → AtHead wrong (Stuck k zero why front) → AtHead wrong (Stuck whole_at zero why front)
     y_stuck front [] why i s = tt

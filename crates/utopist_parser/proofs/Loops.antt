@@ -1,11 +1,11 @@
 -- {part} read part by part, as a loop does.
 use Rattle.std.proofs.Common.{◌≡◌, ℕ, zero, suc, ◌≤◌, ◌<◌, Bool, true, false, List, [], ◌∷◌, ◌++◌, length, Ok, Err, refl, sym, ap, ◌∙◌, append_assoc, arith}
 use Rattle.std.proofs.lemmas.List.{append-nil, length-map}
-use Rattle.utopist_parser.specs.declared.stop.Stop.{Stop}
-use Rattle.utopist_parser.specs.declared.stop.Stop.TheVariants as stop
+use Rattle.utopist_parser.specs.declared.parse_stop.ParseStop.{ParseStop}
+use Rattle.utopist_parser.specs.declared.parse_stop.ParseStop.TheVariants as stop
 use Rattle.utopist_lexer.specs.declared.token.Token.{Token}
 use Rattle.utopist_parser.specs.Symbols.{Symbol, symbol, symbols}
-use Rattle.utopist_parser.specs.Steps.{Reading, ReadOf, Fault, on_ok, next, meets, repeat_fuel}
+use Rattle.utopist_parser.specs.Steps.{Reading, ReadOf, Miss, on_ok, next, meets, repeat_fuel}
 use Rattle.utopist_parser.specs.Answers.{Fails}
 
 -- what was read before, and what is still read
@@ -27,7 +27,7 @@ pub fewer : (ts us : List Token) → length ts < length us → length (symbols t
 fewer ts us h = omega (arith, length-map ts symbol, length-map us symbol)
 
 -- a reading that fails where another does
-pub fails_on : {V W : Type 0} (e : Stop) (r : Reading V) (s : Reading W) → ((x : Fault) → r ≡ Err x → s ≡ Err x) → Fails e r → Fails e s
+pub fails_on : {V W : Type 0} (e : ParseStop) (r : Reading V) (s : Reading W) → ((x : Miss) → r ≡ Err x → s ≡ Err x) → Fails e r → Fails e s
 fails_on stop.NoMem r s f h = tt
 fails_on (stop.Expected left) r s f h = f _ h
 fails_on (stop.TooDeep left) r s f h = f _ h
@@ -69,7 +69,7 @@ module _ {V : Type 0} (begins : Symbol → Bool) (read : ReadOf V) where
       sym so_far.gives ∙ ap (with_front front) (ends-at so_far.fuel ts stops) ∙ ap (λ (vs : List V). Ok (vs, ts)) (append-nil front)
 
   -- a part fails, of so many at most
-  fails-at : (k : ℕ) (fault : Fault) (front : List V) (ts : List Symbol) (total : Reading (List V)) → true ≡ meets begins (next ts) → read ts ≡ Err fault → length ts ≤ k → with_front front (repeat_fuel begins read k ts) ≡ total → total ≡ Err fault
+  fails-at : (k : ℕ) (fault : Miss) (front : List V) (ts : List Symbol) (total : Reading (List V)) → true ≡ meets begins (next ts) → read ts ≡ Err fault → length ts ≤ k → with_front front (repeat_fuel begins read k ts) ≡ total → total ≡ Err fault
   unfolding repeat_fuel
   fails-at zero fault front ts total starts e enough so_far = absurd (omega (arith, nonempty ts starts))
   fails-at (suc k) fault front ts total starts e enough so_far =
@@ -77,7 +77,7 @@ module _ {V : Type 0} (begins : Symbol → Bool) (read : ReadOf V) where
       sym so_far ∙ ap (with_front front) here
 
   -- a part fails, and the whole with it
-  pub fails : (e : Stop) (front : List V) (ts : List Symbol) (total : Reading (List V)) → true ≡ meets begins (next ts) → Fails e (read ts) → SoFar front ts total → Fails e total
+  pub fails : (e : ParseStop) (front : List V) (ts : List Symbol) (total : Reading (List V)) → true ≡ meets begins (next ts) → Fails e (read ts) → SoFar front ts total → Fails e total
   fails e front ts total starts h so_far = fails_on e (read ts) total (λ x i. fails-at so_far.fuel x front ts total starts i so_far.enough so_far.gives) h
 
   -- no part yet
@@ -89,7 +89,7 @@ module _ {V : Type 0} (begins : Symbol → Bool) (read : ReadOf V) where
   first_part ts v rest starts e shorter = goes_on [] ts v rest (repeat_fuel begins read (length ts) ts) starts e shorter (at_first ts)
 
   -- the first part fails, and the whole with it
-  pub no_first_part : (e : Stop) (ts : List Symbol) → true ≡ meets begins (next ts) → Fails e (read ts) → Fails e (repeat_fuel begins read (length ts) ts)
+  pub no_first_part : (e : ParseStop) (ts : List Symbol) → true ≡ meets begins (next ts) → Fails e (read ts) → Fails e (repeat_fuel begins read (length ts) ts)
   no_first_part e ts starts h = fails e [] ts (repeat_fuel begins read (length ts) ts) starts h (at_first ts)
 
   -- no part at all

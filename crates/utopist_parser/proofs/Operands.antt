@@ -4,12 +4,12 @@ use Rattle.std.specs.Prelude.{nat_le}
 use Rattle.std.proofs.lemmas.List.{take_rest, length-map}
 use Rattle.body_lang.specs.declared.op.Op.{Op}
 use Rattle.utopist_lexer.specs.declared.token.Token.{Token}
-use Rattle.utopist_syntax.specs.Tree.{Tree, op}
+use Rattle.utopist_syntax.specs.ExprTree.{ExprTree, op}
 use Rattle.utopist_parser.specs.declared.breadth.Breadth.{Breadth}
-use Rattle.utopist_parser.specs.declared.stop.Stop.{Stop}
+use Rattle.utopist_parser.specs.declared.parse_stop.ParseStop.{ParseStop}
 use Rattle.utopist_parser.specs.Symbols.{Symbol, symbol, symbols}
-use Rattle.utopist_parser.specs.Steps.{Reading, ReadOf, Fault, deep, next}
-use Rattle.utopist_parser.specs.ReadingExpr.{Nested, joined, more_at, sign_of, scale_of, levels_within, factor_at, term_at, chain_at}
+use Rattle.utopist_parser.specs.Steps.{Reading, ReadOf, Miss, deep, next}
+use Rattle.utopist_parser.specs.ReadingExpr.{Nested, op_over, more_at, sign_of, scale_of, levels_within, factor_at, term_at, chain_at}
 use Rattle.utopist_parser.specs.Answers.{Fails}
 use Rattle.utopist_parser.proofs.Loops.{fails_on}
 
@@ -49,24 +49,24 @@ module _ (find : Option Symbol → Option Op) (operand : ReadOf Nested) (room : 
   too_deep v rest o e h s = s.gives ∙ deep-at s.fuel v rest o (sym e) h
 
   -- an operand fails, of so many at most
-  fails-at : (fuel : ℕ) (v : Nested) (rest : List Symbol) (o : Op) (x : Fault) → room < fuel + v.1 → find (next rest) ≡ Some o → v.1 ≤ room → operand (drop 1 rest) ≡ Err x → more_at find operand room fuel v rest ≡ Err x
+  fails-at : (fuel : ℕ) (v : Nested) (rest : List Symbol) (o : Op) (x : Miss) → room < fuel + v.1 → find (next rest) ≡ Some o → v.1 ≤ room → operand (drop 1 rest) ≡ Err x → more_at find operand room fuel v rest ≡ Err x
   unfolding more_at
   fails-at zero v rest o x k i h f = absurd (omega (arith, k, h))
   fails-at (suc fuel) v rest o x k i h f = rw (i, at_most _ _ h, f) refl
 
   -- an operand fails, and the whole with it
-  pub fails : (e : Stop) (v : Nested) (rest : List Symbol) (o : Op) (lower : ReadOf Nested) (behind : List Symbol) → operand ≡ lower → behind ≡ drop 1 rest → Some o ≡ find (next rest) → v.1 ≤ room → Fails e (lower behind) → Operands v rest → Fails e total
+  pub fails : (e : ParseStop) (v : Nested) (rest : List Symbol) (o : Op) (lower : ReadOf Nested) (behind : List Symbol) → operand ≡ lower → behind ≡ drop 1 rest → Some o ≡ find (next rest) → v.1 ≤ room → Fails e (lower behind) → Operands v rest → Fails e total
   fails e v rest o lower behind same is i h f s = fails_on e (lower behind) total (λ x g. s.gives ∙ fails-at s.fuel v rest o x s.enough (sym i) h ((λ j. same j (sym is j)) ∙ g)) f
 
   -- one more operator and operand
-  pub goes_on : (v : Nested) (rest : List Symbol) (o : Op) (lower : ReadOf Nested) (behind : List Symbol) (w : Nested) (after : List Symbol) (t : Tree) (n : ℕ) → operand ≡ lower → behind ≡ drop 1 rest → Some o ≡ find (next rest) → v.1 ≤ room → lower behind ≡ Ok (w, after) → t ≡ op o v.0 w.0 → n ≡ suc (max v.1 w.1)
+  pub goes_on : (v : Nested) (rest : List Symbol) (o : Op) (lower : ReadOf Nested) (behind : List Symbol) (w : Nested) (after : List Symbol) (t : ExprTree) (n : ℕ) → operand ≡ lower → behind ≡ drop 1 rest → Some o ≡ find (next rest) → v.1 ≤ room → lower behind ≡ Ok (w, after) → t ≡ op o v.0 w.0 → n ≡ suc (max v.1 w.1)
       → Operands v rest → Operands (t, n) after
   unfolding more_at
   goes_on v rest o lower behind w after t n same is i h f tree nest s = subst (λ (x : Nested). Operands x after) (λ j. (sym tree j, sym nest j)) (go s.fuel s.enough s.gives) where
     read : operand (drop 1 rest) ≡ Ok (w, after)
     read = (λ j. same j (sym is j)) ∙ f
 
-    go : (fuel : ℕ) → room < fuel + v.1 → total ≡ more_at find operand room fuel v rest → Operands (joined o v w) after
+    go : (fuel : ℕ) → room < fuel + v.1 → total ≡ more_at find operand room fuel v rest → Operands (op_over o v w) after
     go zero k e = absurd (omega (arith, k, h))
     go (suc fuel) k e = record { fuel = fuel; enough = omega (arith, k); gives = e ∙ rw (sym i, at_most _ _ h, read) refl }
 
@@ -84,7 +84,7 @@ unfolding factor_at term_at
 first_factor b room ts v rest e h = record { fuel = room; enough = omega (arith, h); gives = rw e refl }
 
 -- the first factor fails, and the term with it
-pub no_factor : (b : Breadth) (room : ℕ) (e : Stop) (ts : List Symbol) → Fails e (factor_at b room ts) → Fails e (term_at b room ts)
+pub no_factor : (b : Breadth) (room : ℕ) (e : ParseStop) (ts : List Symbol) → Fails e (factor_at b room ts) → Fails e (term_at b room ts)
 unfolding factor_at term_at
 no_factor b room e ts h = fails_on e (factor_at b room ts) (term_at b room ts) (λ x i. rw i refl) h
 
@@ -94,7 +94,7 @@ unfolding term_at chain_at
 first_term b room ts v rest e h = record { fuel = room; enough = omega (arith, h); gives = rw e refl }
 
 -- the first term fails, and the chain with it
-pub no_term : (b : Breadth) (room : ℕ) (e : Stop) (ts : List Symbol) → Fails e (term_at b room ts) → Fails e (chain_at b room ts)
+pub no_term : (b : Breadth) (room : ℕ) (e : ParseStop) (ts : List Symbol) → Fails e (term_at b room ts) → Fails e (chain_at b room ts)
 unfolding term_at chain_at
 no_term b room e ts h = fails_on e (term_at b room ts) (chain_at b room ts) (λ x i. rw i refl) h
 

@@ -10,7 +10,7 @@ use Rattle.utopist_lexer.specs.declared.word.Word.TheVariants as words
 use Rattle.utopist_lexer.specs.declared.mark.Mark.TheVariants as marks
 use Rattle.utopist_lexer.specs.declared.token.Kind.TheVariants as kinds
 use Rattle.utopist_syntax.specs.Named.{Named}
-use Rattle.utopist_syntax.specs.Tree as tree
+use Rattle.utopist_syntax.specs.ExprTree as tree
 use Rattle.utopist_parser.specs.declared.breadth.Breadth.{Breadth}
 use Rattle.utopist_parser.specs.Symbols.{Symbol, word, mark}
 use Rattle.utopist_parser.specs.Steps.{StepOf, meets, pick_at}

@@ -1,7 +1,7 @@
 -- Parts of another type with the same symbols keep the laws.
 use Rattle.std.proofs.Common.{◌≡◌, ℕ, ◌≤◌, Option, List, ◌∷◌, ◌++◌, Ok, Err, sym, ap, subst, ◌∙◌}
 use Rattle.utopist_parser.specs.Symbols.{Symbol}
-use Rattle.utopist_parser.specs.Steps.{Why, expected, deep, Fault, Reading, StepOf, next}
+use Rattle.utopist_parser.specs.Steps.{Why, expected, deep, Miss, Reading, StepOf, next}
 use Rattle.utopist_parser.proofs.StepLaws.{at_head, Form, Stuck, Further, Took, Blames, AgainAt, Laws, Aspect, again_only, all_laws, Keeps}
 
 -- the same parts, of another type
@@ -37,7 +37,7 @@ module _ {X C V : Type 0} (g : Form X) (see : X → V) (spell : C → List Symbo
     recast_further expected front c h = tt
     recast_further deep front c h = (to h.0, h.1, to_spelled h.0 ∙ h.2, h.3, subst (λ x. g.Fits x h.3) (sym (from_to h.0)) h.4)
 
-    recast_blames : (ts : List Symbol) (e : Fault) → g.Enters (next ts) → f room ts ≡ Err e → Blames there f room ts e
+    recast_blames : (ts : List Symbol) (e : Miss) → g.Enters (next ts) → f room ts ≡ Err e → Blames there f room ts e
     recast_blames ts e n h =
         let b = a.blames ts e n h in
         record {

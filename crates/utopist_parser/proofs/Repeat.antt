@@ -4,7 +4,7 @@ use Rattle.std.specs.Prelude.{◌⊎◌}
 use Rattle.std.specs.List.{flat_map}
 use Rattle.std.proofs.lemmas.List.{append-nil}
 use Rattle.utopist_parser.specs.Symbols.{Symbol}
-use Rattle.utopist_parser.specs.Steps.{Why, expected, deep, Fault, Reading, StepOf, on_ok, next, meets, repeat_fuel, repeat_at}
+use Rattle.utopist_parser.specs.Steps.{Why, expected, deep, Miss, Reading, StepOf, on_ok, next, meets, repeat_fuel, repeat_at}
 use Rattle.utopist_parser.proofs.StepLaws.{Reaches, reaches_up, AtHead, at_head, Form, Stuck, Further, Took, Blames, AgainAt, Laws, Aspect, again_only, all_laws, Keeps, ok_is, then_ok, then_err, same_next}
 
 -- what begins has a symbol
@@ -55,7 +55,7 @@ module _ {X V : Type 0} (g : Form X) (see : X → V) (f : StepOf V) (begins : Sy
   repeat_case true x v y e = inl (refl, e)
   repeat_case false x v y e = inr (refl, ok_is v y e)
 
-  repeat_bad : (b : Bool) (x : Reading (List V)) (v : List V × List Symbol) (e : Fault) → cond b x (Ok v) ≡ Err e → (b ≡ true) × (x ≡ Err e)
+  repeat_bad : (b : Bool) (x : Reading (List V)) (v : List V × List Symbol) (e : Miss) → cond b x (Ok v) ≡ Err e → (b ≡ true) × (x ≡ Err e)
   repeat_bad true x v e h = (refl, h)
   repeat_bad false x v e h = absurd cc
 
@@ -97,11 +97,11 @@ module _ {X V : Type 0} (g : Form X) (see : X → V) (f : StepOf V) (begins : Sy
     abbrev any : Form (List X)
     any = all (λ o. Unit {0})
 
-    part_err : (k M : ℕ) (ts : List Symbol) (e : Fault) → meets begins (next ts) ≡ true → f M ts ≡ Err e → repeat_fuel begins (f M) (suc k) ts ≡ Err e
+    part_err : (k M : ℕ) (ts : List Symbol) (e : Miss) → meets begins (next ts) ≡ true → f M ts ≡ Err e → repeat_fuel begins (f M) (suc k) ts ≡ Err e
     unfolding repeat_fuel
     part_err k M ts e n h = rw (n, h) refl
 
-    rest_err : (k M : ℕ) (ts : List Symbol) (v : V) (rest : List Symbol) (e : Fault) → meets begins (next ts) ≡ true → f M ts ≡ Ok (v, rest) → repeat_fuel begins (f M) k rest ≡ Err e → repeat_fuel begins (f M) (suc k) ts ≡ Err e
+    rest_err : (k M : ℕ) (ts : List Symbol) (v : V) (rest : List Symbol) (e : Miss) → meets begins (next ts) ≡ true → f M ts ≡ Ok (v, rest) → repeat_fuel begins (f M) k rest ≡ Err e → repeat_fuel begins (f M) (suc k) ts ≡ Err e
     unfolding repeat_fuel
     rest_err k M ts v rest e n h i = rw (n, h, i) refl
 
@@ -109,7 +109,7 @@ module _ {X V : Type 0} (g : Form X) (see : X → V) (f : StepOf V) (begins : Sy
     record RepeatStuck (why : Why) (front : List Symbol) (c : Symbol) : Type 0 where
       fails : (M : ℕ) → Reaches why room M → (more : List Symbol) (k : ℕ) → length (front ++ (c ∷ more)) ≤ k → repeat_fuel begins (f M) k (front ++ (c ∷ more)) ≡ Err (why, suc (length more))
 
-    record RepeatBlames (ts : List Symbol) (e : Fault) : Type 0 where
+    record RepeatBlames (ts : List Symbol) (e : Miss) : Type 0 where
       front : List Symbol
       wrong : List Symbol
       split : ts ≡ front ++ wrong
@@ -155,7 +155,7 @@ module _ {X V : Type 0} (g : Form X) (see : X → V) (f : StepOf V) (begins : Sy
       (g.grows x room (max h.3 room) (omega arith) i, any.grows h.0 h.3 (max h.3 room) (omega arith) h.4),
     )
 
-    repeat_blames : (k : ℕ) (ts : List Symbol) (e : Fault) → length ts ≤ k → repeat_fuel begins (f room) k ts ≡ Err e → RepeatBlames ts e
+    repeat_blames : (k : ℕ) (ts : List Symbol) (e : Miss) → length ts ≤ k → repeat_fuel begins (f room) k ts ≡ Err e → RepeatBlames ts e
     unfolding repeat_fuel
     repeat_blames zero ts e l h = absurd cc
     repeat_blames (suc k) ts e l h =
@@ -197,7 +197,7 @@ module _ {X V : Type 0} (g : Form X) (see : X → V) (f : StepOf V) (begins : Sy
               ]
         ]
 
-    repeat_at_blames : (S : Option Symbol → Type 0) (ts : List Symbol) (e : Fault) → repeat_at begins f room ts ≡ Err e → Blames (all S) (repeat_at begins f) room ts e
+    repeat_at_blames : (S : Option Symbol → Type 0) (ts : List Symbol) (e : Miss) → repeat_at begins f room ts ≡ Err e → Blames (all S) (repeat_at begins f) room ts e
     repeat_at_blames S ts e h =
         let b = repeat_blames (length ts) ts e (omega arith) h in
         record {

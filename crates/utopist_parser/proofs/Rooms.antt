@@ -5,7 +5,7 @@ use Rattle.utopist_lexer.specs.declared.mark.Mark.{Mark}
 use Rattle.utopist_lexer.specs.declared.mark.Mark.TheVariants as marks
 use Rattle.utopist_lexer.specs.declared.token.Kind.{Kind}
 use Rattle.utopist_lexer.specs.declared.token.Kind.TheVariants as kinds
-use Rattle.utopist_syntax.specs.Tree.{num, path, neg, choice, loop, call}
+use Rattle.utopist_syntax.specs.ExprTree.{num, path, neg, choice, loop, call}
 use Rattle.utopist_parser.specs.Symbols.{Symbol}
 use Rattle.utopist_parser.specs.Steps.{StepOf, ReadOf, on_ok, token_at, pick_at, repeat_fuel}
 use Rattle.utopist_parser.specs.Single.{want_kind, want_name, want_number, want_sub, natural, is_mark, fixed_at, name_at, number_at, sub_at}

@@ -9,7 +9,7 @@ use Rattle.utopist_lexer.specs.declared.token.Kind.{Kind}
 use Rattle.utopist_lexer.specs.declared.token.Kind.TheVariants as kinds
 use Rattle.utopist_lexer.specs.Spelling.{word_text, mark_text}
 use Rattle.utopist_lexer.specs.Kinds.{same_kind}
-use Rattle.utopist_lexer.specs.Tables.{word_of, mark_at}
+use Rattle.utopist_lexer.specs.Tables.{word_of, front_mark}
 use Rattle.utopist_lexer.proofs.Spellings.{word_of-text, mark_at-text}
 
 pub some_same : {X : Type 0} (x y : X) → ◌≡◌ {A = Option X} (Some x) (Some y) → x ≡ y
@@ -22,7 +22,7 @@ same_kind-true (kinds.Word v) (kinds.Word w) e =
 same_kind-true (kinds.Number i) (kinds.Number j) e = ap (λ (x : ℤ). kinds.Number x) ((Decides-int_eq i j).0 e)
 same_kind-true (kinds.Sub i) (kinds.Sub j) e = ap (λ (x : ℤ). kinds.Sub x) ((Decides-int_eq i j).0 e)
 same_kind-true (kinds.Mark m) (kinds.Mark n) e =
-    ap (λ (x : Mark). kinds.Mark x) (some_same m n (sym (mark_at-text m) ∙ ap mark_at ((bytes_eq-Decides (mark_text m) (mark_text n)).0 e) ∙ mark_at-text n))
+    ap (λ (x : Mark). kinds.Mark x) (some_same m n (sym (mark_at-text m) ∙ ap front_mark ((bytes_eq-Decides (mark_text m) (mark_text n)).0 e) ∙ mark_at-text n))
 same_kind-true kinds.End kinds.End e = refl
 same_kind-true j k e = absurd cc
 

@@ -1,7 +1,7 @@
 -- One step after another keeps the laws.
 use Rattle.std.proofs.Common.{◌≡◌, ℕ, max, List, [], ◌∷◌, ◌++◌, Option, Ok, Err, refl, sym, ap, subst, ◌∙◌, append_assoc, arith, inl, inr}
 use Rattle.utopist_parser.specs.Symbols.{Symbol}
-use Rattle.utopist_parser.specs.Steps.{Why, expected, deep, Fault, StepOf, ◌>>=◌, give, next}
+use Rattle.utopist_parser.specs.Steps.{Why, expected, deep, Miss, StepOf, ◌>>=◌, give, next}
 use Rattle.utopist_parser.proofs.StepLaws.{reaches_up, AtHead, at_head, Form, Stuck, Further, Took, Blames, AgainAt, Laws, Aspect, again_only, all_laws, Keeps, Fitting, ok_is, then_ok, then_err, same_next}
 
 -- one part after another, of which what stops the second may depend on the first
@@ -63,7 +63,7 @@ module _ {X Y V W : Type 0} (g : Form X) (d : X → Form Y) (see : X → V) (see
           (g.grows h.0 h.3 (max h.3 room) (omega arith) h.4, (d h.0).grows (some h.0) room (max h.3 room) (omega arith) (fits h.0)),
         )
 
-    first_blames : (ts : List Symbol) (e : Fault) → Blames g f room ts e → Blames pair both_at room ts e
+    first_blames : (ts : List Symbol) (e : Miss) → Blames g f room ts e → Blames pair both_at room ts e
     first_blames ts e h =
         let y = (d h.begun).spell (some h.begun) in
         record {
@@ -107,7 +107,7 @@ module _ {X Y V W : Type 0} (g : Form X) (d : X → Form Y) (see : X → V) (see
             | inr x ↦ second x.0 (a.take ts x.0 n x.1) x.2
           ];
     } where
-      second : {ts : List Symbol} {e : Fault} (x : V × List Symbol) → Took g see room ts x → k x.0 room x.1 ≡ Err e → Blames pair both_at room ts e
+      second : {ts : List Symbol} {e : Miss} (x : V × List Symbol) → Took g see room ts x → k x.0 room x.1 ≡ Err e → Blames pair both_at room ts e
       second {ts} {e} x t h =
           let on : k (see t.part) room x.1 ≡ Err e = subst (λ w. k w room x.1 ≡ Err e) (sym t.seen) h in
           let u = (b t.part).blames x.1 e (enters t.part _ t.stops) on in
@@ -151,7 +151,7 @@ module _ {X V W : Type 0} (g : Form X) (see : X → V) (h : V → W) (f : StepOf
         stops = subst (λ (p : W × List Symbol). g.Stops t.part (next p.1)) y t.stops;
       }
 
-  map_blames : (room : ℕ) → Laws g see f room → (ts : List Symbol) (e : Fault) → g.Enters (next ts) → map_at room ts ≡ Err e → Blames g map_at room ts e
+  map_blames : (room : ℕ) → Laws g see f room → (ts : List Symbol) (e : Miss) → g.Enters (next ts) → map_at room ts ≡ Err e → Blames g map_at room ts e
   map_blames room a ts e n i =
       elim (then_err (f room ts) (λ p. give (h p.0) room p.1) e i) [
         | inl bad ↦ let b = a.blames ts e n bad in record {

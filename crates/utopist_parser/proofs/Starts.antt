@@ -3,7 +3,7 @@ use Rattle.std.proofs.Common.{◌≡◌, ◌<◌, Bool, true, List, [], ◌∷�
 use Rattle.std.proofs.lemmas.List.{map-append}
 use Rattle.utopist_lexer.specs.declared.mark.Mark.{Mark}
 use Rattle.utopist_lexer.specs.declared.mark.Mark.TheVariants as marks
-use Rattle.utopist_parser.specs.declared.stop.Stop.{Stop}
+use Rattle.utopist_parser.specs.declared.parse_stop.ParseStop.{ParseStop}
 use Rattle.utopist_parser.specs.Symbols.{Symbol}
 use Rattle.utopist_parser.specs.Steps.{Reading, ReadOf, StepOf, next, meets, repeat_fuel}
 use Rattle.utopist_parser.specs.Single.{is_mark, mark_at}
@@ -28,7 +28,7 @@ module _ {V : Type 0} (separator : Mark) (f : StepOf V) where
       subst (λ (x : List V). Separated x rest ts) (sym (pushed ∙ ap (λ (l : List V). l ++ v ∷ []) empty)) (separated_starts ts v rest e)
 
   -- no first part
-  pub separated_fails : (e : Stop) (ts : List Symbol) → Fails e (f 63 ts) → Fails e (separated_at separator f 63 ts)
+  pub separated_fails : (e : ParseStop) (ts : List Symbol) → Fails e (f 63 ts) → Fails e (separated_at separator f 63 ts)
   separated_fails e ts h = fails_on e (f 63 ts) (separated_at separator f 63 ts) (λ x i. rw i refl) h
 
 module _ {X V : Type 0} (view : X → V) (begins : Symbol → Bool) (read : ReadOf V) where

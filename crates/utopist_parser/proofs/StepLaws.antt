@@ -2,7 +2,7 @@
 use Rattle.std.proofs.Common.{◌≡◌, ℕ, suc, ◌≤◌, List, [], ◌∷◌, ◌++◌, length, Option, Ok, Err, refl, ap, arith, inl, inr}
 use Rattle.std.specs.Prelude.{◌⊎◌}
 use Rattle.utopist_parser.specs.Symbols.{Symbol}
-use Rattle.utopist_parser.specs.Steps.{Why, expected, deep, Fault, Reading, StepOf, on_ok, next}
+use Rattle.utopist_parser.specs.Steps.{Why, expected, deep, Miss, Reading, StepOf, on_ok, next}
 
 -- the rooms at which the same reading has the same fault: any larger one, or for a limit this one alone
 abbrev pub Reaches : Why → ℕ → ℕ → Type 0
@@ -48,7 +48,7 @@ pub record Took {X V : Type 0} (g : Form X) (see : X → V) (room : ℕ) (ts : L
   pub stops : g.Stops part (next v.1)
 
 -- where a reading fails, what stands before begins a part, and nothing goes on with the wrong symbol
-pub record Blames {X V : Type 0} (g : Form X) (f : StepOf V) (room : ℕ) (ts : List Symbol) (fault : Fault) : Type 0 where
+pub record Blames {X V : Type 0} (g : Form X) (f : StepOf V) (room : ℕ) (ts : List Symbol) (fault : Miss) : Type 0 where
   pub front : List Symbol
   pub wrong : List Symbol
   pub split : ts ≡ front ++ wrong
@@ -67,7 +67,7 @@ pub record AgainAt {X V : Type 0} (g : Form X) (see : X → V) (f : StepOf V) (M
 pub record Laws {X V : Type 0} (g : Form X) (see : X → V) (f : StepOf V) (room : ℕ) : Type 0 where
   pub again : (M : ℕ) → AgainAt g see f M
   pub take : (ts : List Symbol) (v : V × List Symbol) → g.Enters (next ts) → f room ts ≡ Ok v → Took g see room ts v
-  pub blames : (ts : List Symbol) (e : Fault) → g.Enters (next ts) → f room ts ≡ Err e → Blames g f room ts e
+  pub blames : (ts : List Symbol) (e : Miss) → g.Enters (next ts) → f room ts ≡ Err e → Blames g f room ts e
 
 -- ---- the two rounds in which the laws of steps that nest are proved
 
@@ -88,7 +88,7 @@ Fitting all_laws g x room = g.Fits x room
 
 -- ---- answers of steps
 
-pub failed_is : (V : Type 0) (e d : Fault) → ◌≡◌ {A = Reading V} (Err e) (Err d) → e ≡ d
+pub failed_is : (V : Type 0) (e d : Miss) → ◌≡◌ {A = Reading V} (Err e) (Err d) → e ≡ d
 failed_is V e d h = cc
 
 pub ok_is : {V : Type 0} (v w : V × List Symbol) → ◌≡◌ {A = Reading V} (Ok v) (Ok w) → v ≡ w
@@ -98,10 +98,10 @@ pub then_ok : {V W : Type 0} (r : Reading V) (f : V × List Symbol → Reading W
 then_ok (Ok x) f y e = (x, refl, e)
 then_ok (Err d) f y e = absurd cc
 
-pub then_err : {V W : Type 0} (r : Reading V) (f : V × List Symbol → Reading W) (e : Fault) → on_ok r f ≡ Err e → (r ≡ Err e) ⊎ ((x : V × List Symbol) × (r ≡ Ok x) × (f x ≡ Err e))
+pub then_err : {V W : Type 0} (r : Reading V) (f : V × List Symbol → Reading W) (e : Miss) → on_ok r f ≡ Err e → (r ≡ Err e) ⊎ ((x : V × List Symbol) × (r ≡ Ok x) × (f x ≡ Err e))
 then_err (Ok x) f e h = inr (x, refl, h)
-then_err {V = V} {W = W} (Err d) f e h = inl (ap (λ (q : Fault). failed_at V q) (failed_is W d e h)) where
-  failed_at : (U : Type 0) → Fault → Reading U
+then_err {V = V} {W = W} (Err d) f e h = inl (ap (λ (q : Miss). failed_at V q) (failed_is W d e h)) where
+  failed_at : (U : Type 0) → Miss → Reading U
   failed_at U q = Err q
 
 pub same_next : (front : List Symbol) (c : Symbol) (cs more : List Symbol) → next (front ++ (c ∷ cs)) ≡ next (front ++ (c ∷ more))

@@ -11,26 +11,26 @@ use Rattle.utopist_syntax.specs.declared.expr.Expr.TheViews as views
 use Rattle.utopist_syntax.specs.declared.expr.Expr.TheVariants as variants
 use Rattle.utopist_syntax.specs.declared.expr.Expr.TheFolds.{fold-roll-Expr}
 use Rattle.utopist_syntax.specs.declared.expr.Expr.TheOpen.{Expr-F}
-use Rattle.utopist_syntax.specs.Tree.{Tree, num, path, neg, op, choice, loop, call}
-use Rattle.utopist_syntax.specs.View.{node, tree_of, trees_of}
+use Rattle.utopist_syntax.specs.ExprTree.{ExprTree, num, path, neg, op, choice, loop, call}
+use Rattle.utopist_syntax.specs.View.{expr_node, tree_of, trees_of}
 
 pub num_tree : (n : ℤ) → tree_of (variants.Num n) ≡ num n
-num_tree n = ap tree_of (sym (variants.rolls-Num n)) ∙ fold-roll-Expr Tree node (Expr-F.Num n)
+num_tree n = ap tree_of (sym (variants.rolls-Num n)) ∙ fold-roll-Expr ExprTree expr_node (Expr-F.Num n)
 
 pub path_tree : (p : Path) → tree_of (variants.Path p) ≡ path p.parts
-path_tree p = ap tree_of (sym (variants.rolls-Path p)) ∙ fold-roll-Expr Tree node (Expr-F.Path p)
+path_tree p = ap tree_of (sym (variants.rolls-Path p)) ∙ fold-roll-Expr ExprTree expr_node (Expr-F.Path p)
 
 pub neg_tree : (a : Expr) → tree_of (views.Neg a) ≡ neg (tree_of a)
-neg_tree a = ap tree_of (sym (variants.rolls-Neg a)) ∙ fold-roll-Expr Tree node (Expr-F.Neg a)
+neg_tree a = ap tree_of (sym (variants.rolls-Neg a)) ∙ fold-roll-Expr ExprTree expr_node (Expr-F.Neg a)
 
 pub op_tree : (o : Op) (a b : Expr) → tree_of (views.Op o a b) ≡ op o (tree_of a) (tree_of b)
-op_tree o a b = ap tree_of (sym (variants.rolls-Op o a b)) ∙ fold-roll-Expr Tree node (Expr-F.Op o a b)
+op_tree o a b = ap tree_of (sym (variants.rolls-Op o a b)) ∙ fold-roll-Expr ExprTree expr_node (Expr-F.Op o a b)
 
 pub choice_tree : (c : Cmp) (a b t e : Expr) → tree_of (views.If c a b t e) ≡ choice c (tree_of a) (tree_of b) (tree_of t) (tree_of e)
-choice_tree c a b t e = ap tree_of (sym (variants.rolls-If c a b t e)) ∙ fold-roll-Expr Tree node (Expr-F.If c a b t e)
+choice_tree c a b t e = ap tree_of (sym (variants.rolls-If c a b t e)) ∙ fold-roll-Expr ExprTree expr_node (Expr-F.If c a b t e)
 
 pub loop_tree : (kind : LoopKind) (n : Named) (a b e : Expr) → tree_of (views.Loop kind n a b e) ≡ loop kind n (tree_of a) (tree_of b) (tree_of e)
-loop_tree kind n a b e = ap tree_of (sym (variants.rolls-Loop kind n a b e)) ∙ fold-roll-Expr Tree node (Expr-F.Loop kind n a b e)
+loop_tree kind n a b e = ap tree_of (sym (variants.rolls-Loop kind n a b e)) ∙ fold-roll-Expr ExprTree expr_node (Expr-F.Loop kind n a b e)
 
 pub call_tree : (k : ℤ) (p : Place) (args : List Expr) → tree_of (views.Call k p args) ≡ call k p (trees_of args)
-call_tree k p args = ap tree_of (sym (variants.rolls-Call k p args)) ∙ fold-roll-Expr Tree node (Expr-F.Call k p args)
+call_tree k p args = ap tree_of (sym (variants.rolls-Call k p args)) ∙ fold-roll-Expr ExprTree expr_node (Expr-F.Call k p args)

@@ -27,7 +27,7 @@ use Rattle.utopist_parser.specs.FileSeen.{see_compute, see_file}
 use Rattle.utopist_parser.specs.FileNesting.{IsFile}
 use Rattle.utopist_parser.specs.Begins.{BeginsWithin, BeginsNone, BeginsTooDeep, FirstWrong}
 use Rattle.utopist_parser.specs.Forms.{ReadsAs, FirstFault, HasNoTree, ParseOf}
-use Rattle.utopist_parser.specs.Steps.{Reading, Why, Fault, expected, deep}
+use Rattle.utopist_parser.specs.Steps.{Reading, Why, Miss, expected, deep}
 use Rattle.utopist_parser.specs.ReadingFile.{file_at}
 use Rattle.utopist_parser.specs.Answers.{PlaceFrom, PlaceOf}
 use Rattle.utopist_parser.proofs.StepLaws.{AtHead, Stuck, Further, Blames, Laws, all_laws}
@@ -44,7 +44,7 @@ room = 63
 pub file_laws : (M : ℕ) → Laws file_form see_file file_at M
 file_laws M = (file_rule {m = all_laws} {room = M}).keeps
 
-ok_err : (x : FileTree × List Symbol) (e : Fault) (r : Reading FileTree) → r ≡ Ok x → r ≡ Err e → ⊥
+ok_err : (x : FileTree × List Symbol) (e : Miss) (r : Reading FileTree) → r ≡ Ok x → r ≡ Err e → ⊥
 ok_err x e r h i = cc
 
 -- a reading gives one answer
@@ -97,7 +97,7 @@ module _ (text : List ℕ) (items : List Token) (w : WholeTokens (chars text) it
         λ g r. ap (λ (x : FileTree × List Symbol). x.0) (both_ok (g, []) (f, rest) (file_at room (symbols items)) (again g r) e),
       )
 
-  whole_no_tree : (e : Fault) → file_at room (symbols items) ≡ Err e → HasNoTree text
+  whole_no_tree : (e : Miss) → file_at room (symbols items) ≡ Err e → HasNoTree text
   whole_no_tree e h f r = ok_err (f, []) e (file_at room (symbols items)) (again f r) h
 
   -- with the end no file goes on
@@ -107,7 +107,7 @@ module _ (text : List ℕ) (items : List Token) (w : WholeTokens (chars text) it
       (sym (sym (file_ends b []) ∙ append-nil (spell_file b) ∙ e ∙ ap (λ (l : List Symbol). l ++ more) symbols_end ∙ append_assoc (map symbol_of w.tokens) (end ∷ []) more))
 
   -- so some symbol is wrong
-  whole_some : (e : Fault) (b : WrittenFile) → IsFile (suc room) b → (more : List Symbol) → file_at room (symbols items) ≡ Err e → spell_file b ≡ symbols items ++ more → ⊥
+  whole_some : (e : Miss) (b : WrittenFile) → IsFile (suc room) b → (more : List Symbol) → file_at room (symbols items) ≡ Err e → spell_file b ≡ symbols items ++ more → ⊥
   whole_some e b fits more h begins =
       let all : spell_file b ≡ symbols items = begins ∙ ap (λ (l : List Symbol). symbols items ++ l) (whole_done b more begins) ∙ append-nil (symbols items) in
       ok_err (see_file b, []) e (file_at room (symbols items)) (ap (file_at room) (sym all) ∙ file_again room b fits) h
@@ -184,11 +184,11 @@ tree_at text items (Some l) t f rest e =
 pub tree_of : (text : List ℕ) (items : List Token) (o : Option LexFault) → TokensOf (chars text) items o → (f : File) (rest : List Symbol) → file_at room (symbols items) ≡ Ok (file_tree f, rest) → ParseOf text (Ok f)
 tree_of text items o t f rest e = tree_at text items o t (file_tree f) rest e
 
-no_tree : (text : List ℕ) (items : List Token) (o : Option LexFault) → TokensOf (chars text) items o → (e : Fault) → file_at room (symbols items) ≡ Err e → HasNoTree text
+no_tree : (text : List ℕ) (items : List Token) (o : Option LexFault) → TokensOf (chars text) items o → (e : Miss) → file_at room (symbols items) ≡ Err e → HasNoTree text
 no_tree text items None t e h = whole_no_tree text items t.0 t.1 e h
 no_tree text items (Some l) t e h = faulty_no_tree text items l t.0 t.1
 
-blames_of : (items : List Token) (e : Fault) → file_at room (symbols items) ≡ Err e → Blames file_form file_at room (symbols items) e
+blames_of : (items : List Token) (e : Miss) → file_at room (symbols items) ≡ Err e → Blames file_form file_at room (symbols items) e
 blames_of items e h = (file_laws room).blames (symbols items) e tt h
 
 -- as many symbols are left as there are tokens at most

@@ -4,19 +4,19 @@ use Rattle.priz_base.specs.declared.place.Place.{Place}
 use Rattle.utopist_lexer.specs.declared.fault.LexFault.{LexFault}
 use Rattle.utopist_lexer.specs.declared.token.Token.{Token}
 use Rattle.utopist_lexer.specs.Scanning.{place_of}
-use Rattle.utopist_parser.specs.declared.stop.Stop.{Stop}
-use Rattle.utopist_parser.specs.declared.stop.Stop.TheVariants as stop
+use Rattle.utopist_parser.specs.declared.parse_stop.ParseStop.{ParseStop}
+use Rattle.utopist_parser.specs.declared.parse_stop.ParseStop.TheVariants as stop
 use Rattle.utopist_parser.specs.Symbols.{Symbol}
 use Rattle.utopist_parser.specs.Steps.{Reading, expected, deep}
 
 -- the reading fails so, or memory ran out
-abbrev pub Fails : {V : Type 0} → Stop → Reading V → Type 0
+abbrev pub Fails : {V : Type 0} → ParseStop → Reading V → Type 0
 Fails stop.NoMem read = Unit {0}
 Fails (stop.Expected left) read = read ≡ Err (expected, left)
 Fails (stop.TooDeep left) read = read ≡ Err (deep, left)
 
 -- what was returned, seen by view, is what reading gives, unless memory ran out
-abbrev pub Gives : {X V : Type 0} → (X → V × List Symbol) → Result X Stop → Reading V → Type 0
+abbrev pub Gives : {X V : Type 0} → (X → V × List Symbol) → Result X ParseStop → Reading V → Type 0
 Gives view (Ok x) read = read ≡ Ok (view x)
 Gives view (Err e) read = Fails e read
 

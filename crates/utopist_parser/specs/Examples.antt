@@ -7,8 +7,8 @@ use Rattle.utopist_lexer.specs.Places.{first_place}
 use Rattle.utopist_lexer.specs.declared.word.Word.TheVariants as words
 use Rattle.utopist_lexer.specs.declared.mark.Mark.TheVariants as marks
 use Rattle.utopist_syntax.specs.Named.{Named}
-use Rattle.utopist_syntax.specs.Tree as tree
-use Rattle.utopist_syntax.specs.Tree.{Tree}
+use Rattle.utopist_syntax.specs.ExprTree as tree
+use Rattle.utopist_syntax.specs.ExprTree.{ExprTree}
 use Rattle.utopist_parser.specs.Symbols.{Symbol, name, sub, number, word, mark}
 use Rattle.utopist_parser.specs.Written.{plus, minus, times, Expression, choice, plain, Chain, one_term, add, Term, one_factor, mul, Factor, negated, literal, variable, round, call, loop, no_more, and_then}
 use Rattle.utopist_parser.specs.ExprSymbols.{spell_chain}
@@ -17,7 +17,7 @@ use Rattle.utopist_parser.specs.Nesting.{nest_chain}
 use Rattle.utopist_parser.specs.FileSeen.{see_value}
 
 -- a chain as it is written has these symbols, this tree and this nesting
-pub record Reads (written : Chain) (symbols : List Symbol) (seen : Tree) (nesting : ℕ) : Type 0 where
+pub record HasReading (written : Chain) (symbols : List Symbol) (seen : ExprTree) (nesting : ℕ) : Type 0 where
   pub spelled : spell_chain written ≡ symbols
   pub tree : see_chain written ≡ seen
   pub nested : nest_chain written ≡ nesting
@@ -25,16 +25,16 @@ pub record Reads (written : Chain) (symbols : List Symbol) (seen : Tree) (nestin
 -- ---- parts
 
 -- the name of these bytes, at the first place
-abbrev pub called : List ℕ → Named
-called letter = record { text = letter; place = first_place }
+abbrev pub named_first : List ℕ → Named
+named_first letter = record { text = letter; place = first_place }
 
 -- the name a
 abbrev pub a : Named
-a = called (codes "a")
+a = named_first (codes "a")
 
 -- the name b
 abbrev pub b : Named
-b = called (codes "b")
+b = named_first (codes "b")
 
 -- a variable as a factor
 abbrev pub var : Named → Factor
@@ -53,7 +53,7 @@ abbrev pub expr_of : Factor → Expression
 expr_of f = plain (chain_of f)
 
 -- a variable's tree
-abbrev pub leaf : Named → Tree
+abbrev pub leaf : Named → ExprTree
 leaf n = tree.path (n ∷ [])
 
 -- ---- differences and products
@@ -65,7 +65,7 @@ differences = add (add (chain_of (var a)) minus (term_of (var b))) minus (term_o
 -- of two differences the left one is taken first
 abbrev pub DifferencesGroupFromTheLeft : Type 0
 DifferencesGroupFromTheLeft =
-    Reads differences (name a ∷ mark marks.Minus ∷ name b ∷ mark marks.Minus ∷ name a ∷ []) (tree.op ops.Sub (tree.op ops.Sub (leaf a) (leaf b)) (leaf a)) 3
+    HasReading differences (name a ∷ mark marks.Minus ∷ name b ∷ mark marks.Minus ∷ name a ∷ []) (tree.op ops.Sub (tree.op ops.Sub (leaf a) (leaf b)) (leaf a)) 3
 
 -- (a + 1) * -2
 abbrev pub product : Chain
@@ -74,7 +74,7 @@ product = one_term (mul (term_of (round (plain (add (chain_of (var a)) plus (ter
 -- parentheses leave no node, and a minus binds more than a product
 abbrev pub ParenthesesVanish : Type 0
 ParenthesesVanish =
-    Reads product
+    HasReading product
     (mark marks.OpenRound ∷ name a ∷ mark marks.Plus ∷ number (pos 1) ∷ mark marks.CloseRound ∷ mark marks.Star ∷ mark marks.Minus ∷ number (pos 2) ∷ [])
     (tree.op ops.Mul (tree.op ops.Add (leaf a) (tree.num (pos 1))) (tree.neg (tree.num (pos 2)))) 4
 
@@ -89,7 +89,7 @@ branches =
 -- a choice in parentheses holds a call and a loop, and in the loop a path of two names
 abbrev pub ChoicesHoldCallsAndLoops : Type 0
 ChoicesHoldCallsAndLoops =
-    Reads (chain_of (round branches))
+    HasReading (chain_of (round branches))
     (mark marks.OpenRound ∷ word words.If ∷ name a ∷ mark marks.Less ∷ name b ∷ word words.Then ∷ sub (pos 1) first_place ∷ mark marks.OpenRound ∷ name a ∷ mark marks.Comma ∷ name b ∷ mark marks.CloseRound
     ∷ word words.Else ∷ word words.Sum ∷ mark marks.OpenRound ∷ name b ∷ mark marks.Comma ∷ number (pos 1) ∷ mark marks.Comma ∷ name a ∷ mark marks.Dot ∷ name b ∷ mark marks.Comma ∷ name b ∷ mark marks.CloseRound ∷ mark marks.CloseRound ∷ [])
     (tree.choice cmps.Less (leaf a) (leaf b) (tree.call (pos 1) first_place (tree.more (leaf a) (tree.more (leaf b) tree.none)))
@@ -98,9 +98,9 @@ ChoicesHoldCallsAndLoops =
 -- ---- nesting
 
 -- a + a + .. + a, with so many signs
-abbrev pub sum_of : ℕ → Chain
-sum_of zero = chain_of (var a)
-sum_of (suc n) = add (sum_of n) plus (term_of (var a))
+abbrev pub sum_chain : ℕ → Chain
+sum_chain zero = chain_of (var a)
+sum_chain (suc n) = add (sum_chain n) plus (term_of (var a))
 
 -- a + 1 in so many parentheses
 abbrev pub rounds_of : ℕ → Chain
@@ -109,7 +109,7 @@ rounds_of (suc n) = chain_of (round (plain (rounds_of n)))
 
 -- 64 terms are nested 64 deep, and so are 62 parentheses round a sum; one more of either is one deeper
 abbrev pub EachTermAndEachParenthesisCounts : Type 0
-EachTermAndEachParenthesisCounts = (nest_chain (sum_of 63) ≡ 64) × (nest_chain (sum_of 64) ≡ 65) × (nest_chain (rounds_of 62) ≡ 64) × (nest_chain (rounds_of 63) ≡ 65)
+EachTermAndEachParenthesisCounts = (nest_chain (sum_chain 63) ≡ 64) × (nest_chain (sum_chain 64) ≡ 65) × (nest_chain (rounds_of 62) ≡ 64) × (nest_chain (rounds_of 63) ≡ 65)
 
 -- ---- 4/6, -3, and -0/5
 

@@ -2,8 +2,8 @@
 use Rattle.std.specs.Prelude.{pos, List, ◌∷◌}
 use Rattle.body_lang.specs.declared.op.Op.{Op}
 use Rattle.body_lang.specs.declared.op.Op.TheVariants as ops
-use Rattle.utopist_syntax.specs.Tree as tree
-use Rattle.utopist_syntax.specs.Tree.{Tree, Trees}
+use Rattle.utopist_syntax.specs.ExprTree as tree
+use Rattle.utopist_syntax.specs.ExprTree.{ExprTree, ExprTrees}
 use Rattle.utopist_parser.specs.Written.{OneOrMore, Sign, plus, minus, Scale, times, over, Expression, choice, plain, Chain, one_term, add, Term, one_factor, mul, Factor, negated, literal, variable, round, call, loop, Further, no_more, and_then}
 
 -- all the parts in order
@@ -22,22 +22,22 @@ scale_op over = ops.Div
 
 abbrev mutual
   -- an expression's tree
-  pub see_expr : Expression → Tree
+  pub see_expr : Expression → ExprTree
   see_expr (choice a c b met other) = tree.choice c (see_chain a) (see_chain b) (see_expr met) (see_expr other)
   see_expr (plain c) = see_chain c
 
   -- a sum's or difference's tree
-  pub see_chain : Chain → Tree
+  pub see_chain : Chain → ExprTree
   see_chain (one_term t) = see_term t
   see_chain (add c sign t) = tree.op (sign_op sign) (see_chain c) (see_term t)
 
   -- a product's or quotient's tree
-  pub see_term : Term → Tree
+  pub see_term : Term → ExprTree
   see_term (one_factor f) = see_factor f
   see_term (mul t scale f) = tree.op (scale_op scale) (see_term t) (see_factor f)
 
   -- a factor's tree
-  pub see_factor : Factor → Tree
+  pub see_factor : Factor → ExprTree
   see_factor (negated f) = tree.neg (see_factor f)
   see_factor (literal n) = tree.num (pos n)
   see_factor (variable p) = tree.path (all_of p)
@@ -46,6 +46,6 @@ abbrev mutual
   see_factor (loop kind n first second each) = tree.loop kind n (see_expr first) (see_expr second) (see_expr each)
 
   -- the trees of further arguments
-  pub see_exprs : Further → Trees
+  pub see_exprs : Further → ExprTrees
   see_exprs no_more = tree.none
   see_exprs (and_then e more) = tree.more (see_expr e) (see_exprs more)

@@ -6,7 +6,7 @@ use Rattle.utopist_lexer.specs.declared.mark.Mark.TheVariants as marks
 use Rattle.utopist_syntax.specs.declared.path.Path.{Path}
 use Rattle.utopist_syntax.specs.declared.item.VarKind.TheVariants as kinds
 use Rattle.utopist_syntax.specs.Named.{Named}
-use Rattle.utopist_syntax.specs.Tree as tree
+use Rattle.utopist_syntax.specs.ExprTree as tree
 use Rattle.utopist_syntax.specs.FileTree as file
 use Rattle.utopist_syntax.specs.FileTree.{FileTree}
 use Rattle.utopist_parser.specs.Symbols.{Symbol, name, number, word, mark, end}
@@ -14,20 +14,16 @@ use Rattle.utopist_parser.specs.Written.{plus, times, plain, add, one_term, mul,
 use Rattle.utopist_parser.specs.WrittenFile.{numeric, var, eq, WrittenFile}
 use Rattle.utopist_parser.specs.FileSymbols.{spell_file}
 use Rattle.utopist_parser.specs.FileSeen.{see_file}
-use Rattle.utopist_parser.specs.Examples.{called, chain_of, term_of, leaf}
+use Rattle.utopist_parser.specs.Examples.{named_first, a, chain_of, term_of, leaf}
 use Rattle.utopist_parser.specs.Examples as example
-
--- the name a
-abbrev pub a : Named
-a = called (codes "a")
 
 -- the name x
 abbrev pub x : Named
-x = called (codes "x")
+x = named_first (codes "x")
 
 -- the name y
 abbrev pub y : Named
-y = called (codes "y")
+y = named_first (codes "y")
 
 -- the file as it is written
 abbrev pub written : WrittenFile
@@ -52,8 +48,8 @@ written = record {
 }
 
 -- its symbols
-abbrev pub symbols : List Symbol
-symbols =
+abbrev pub file_symbols : List Symbol
+file_symbols =
     word words.Concept ∷ name a ∷ mark marks.Colon ∷ mark marks.OpenRound
     ∷ word words.Var ∷ name x ∷ mark marks.Comma ∷ name y ∷ mark marks.Colon ∷ word words.Numeric ∷ mark marks.Semicolon
     ∷ word words.Eq ∷ name x ∷ mark marks.Equal ∷ mark marks.OpenRound ∷ name y ∷ mark marks.Plus ∷ number (pos 1) ∷ mark marks.CloseRound ∷ mark marks.Star ∷ mark marks.Minus ∷ number (pos 2) ∷ mark marks.Semicolon
@@ -83,4 +79,4 @@ seen = record {
 
 -- the file has these symbols and this tree
 abbrev pub AFileIsRead : Type 0
-AFileIsRead = (spell_file written ≡ symbols) × (see_file written ≡ seen)
+AFileIsRead = (spell_file written ≡ file_symbols) × (see_file written ≡ seen)

@@ -9,7 +9,7 @@ use Rattle.body_lang.specs.declared.loop_kind.LoopKind.TheVariants as loops
 use Rattle.utopist_lexer.specs.declared.word.Word.TheVariants as words
 use Rattle.utopist_lexer.specs.declared.mark.Mark.TheVariants as marks
 use Rattle.utopist_lexer.specs.declared.token.Kind.TheVariants as kinds
-use Rattle.utopist_syntax.specs.Tree.{Tree, Trees, num, path, neg, op, choice, loop, call, none, more}
+use Rattle.utopist_syntax.specs.ExprTree.{ExprTree, ExprTrees, num, path, neg, op, choice, loop, call, none, more}
 use Rattle.utopist_parser.specs.declared.breadth.Breadth.{Breadth}
 use Rattle.utopist_parser.specs.declared.breadth.Breadth.TheVariants as breadth
 use Rattle.utopist_parser.specs.Symbols.{Symbol}
@@ -19,7 +19,7 @@ use Rattle.utopist_parser.specs.Lists.{separated_at, path_at}
 
 -- a tree and its nesting
 abbrev pub Nested : Type 0
-Nested = Tree × ℕ
+Nested = ExprTree × ℕ
 
 -- ---- operators
 
@@ -32,8 +32,8 @@ abbrev pub scale_of : Option Symbol → Option Op
 scale_of o = if meets (is_mark marks.Star) o then Some ops.Mul else (if meets (is_mark marks.Slash) o then Some ops.Div else None)
 
 -- an operator and its two operands, nested one deeper than the deeper of them
-abbrev pub joined : Op → Nested → Nested → Nested
-joined o v w = (op o v.0 w.0, suc (max v.1 w.1))
+abbrev pub op_over : Op → Nested → Nested → Nested
+op_over o v w = (op o v.0 w.0, suc (max v.1 w.1))
 
 -- behind an operand: an operator for which there is room, or none
 abbrev pub one_more : Option Op → ℕ → Nested → List Symbol → (Op → Reading Nested) → Reading Nested
@@ -44,7 +44,7 @@ one_more (Some o) room v ts go_on = if nat_le v.1 room then go_on o else Err (de
 unfoldable pub more_at : (Option Symbol → Option Op) → ReadOf Nested → ℕ → ℕ → Nested → ReadOf Nested
 more_at find operand room zero v ts = one_more (find (next ts)) room v ts (λ o. Err (deep, length ts))
 more_at find operand room (suc k) v ts =
-    one_more (find (next ts)) room v ts (λ o. on_ok (operand (drop 1 ts)) (λ x. more_at find operand room k (joined o v x.0) x.1))
+    one_more (find (next ts)) room v ts (λ o. on_ok (operand (drop 1 ts)) (λ x. more_at find operand room k (op_over o v x.0) x.1))
 
 -- first {OPERATOR operand}
 abbrev pub group_at : (Option Symbol → Option Op) → StepOf Nested → StepOf Nested → StepOf Nested
@@ -58,7 +58,7 @@ most [] = 0
 most (v ∷ vs) = max v.1 (most vs)
 
 -- the trees of several
-abbrev pub trees_in : List Nested → Trees
+abbrev pub trees_in : List Nested → ExprTrees
 trees_in [] = none
 trees_in (v ∷ vs) = more v.0 (trees_in vs)
 

@@ -14,7 +14,7 @@ use Rattle.utopist_syntax.specs.declared.item.Part.{Part}
 use Rattle.utopist_syntax.specs.declared.item.Part.TheVariants as parts
 use Rattle.utopist_syntax.specs.declared.compute.Compute.{Compute}
 use Rattle.utopist_syntax.specs.declared.compute.GivenPath.{GivenPath}
-use Rattle.utopist_syntax.specs.Tree.{Tree}
+use Rattle.utopist_syntax.specs.ExprTree.{ExprTree}
 use Rattle.utopist_syntax.specs.FileTree.{ItemTree, var, eq, rel, ConceptTree, FileTree}
 use Rattle.utopist_parser.specs.declared.breadth.Breadth.TheVariants as breadth
 use Rattle.utopist_parser.specs.Symbols.{Symbol}
@@ -115,7 +115,7 @@ unfoldable pub parts_at : StepOf (List Part)
 parts_at = choose_at begins_part some_parts_at (give [])
 
 -- "{" expr "}"
-unfoldable pub some_body_at : StepOf (Option Tree)
+unfoldable pub some_body_at : StepOf (Option ExprTree)
 some_body_at = do
   u ← mark_at marks.OpenCurly
   e ← expr_at breadth.All
@@ -123,7 +123,7 @@ some_body_at = do
   give (Some e.0)
 
 -- ["{" expr "}"]
-unfoldable pub body_at : StepOf (Option Tree)
+unfoldable pub body_at : StepOf (Option ExprTree)
 body_at = choose_at (is_mark marks.OpenCurly) some_body_at (give None)
 
 -- "rel" Name ":" [part {"," part}] "->" path ["{" expr "}"] ";"
@@ -209,14 +209,14 @@ some_value_at = do
   give (Some (low (signed_ratio negative (unsigned_abs n) (unsigned_abs d))))
 
 -- ["=" number]
-unfoldable pub value_at : StepOf (Option Ratio)
-value_at = choose_at (is_mark marks.Equal) some_value_at (give None)
+unfoldable pub given_value_at : StepOf (Option Ratio)
+given_value_at = choose_at (is_mark marks.Equal) some_value_at (give None)
 
 -- given = path ["=" number]
 unfoldable pub given_at : StepOf GivenPath
 given_at = do
   p ← path_at
-  v ← value_at
+  v ← given_value_at
   give (record { path = p; value = v })
 
 -- "given" given {"," given} ";"

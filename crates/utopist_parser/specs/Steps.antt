@@ -8,12 +8,12 @@ pub data Why : Type 0 where
   deep : Why
 
 -- why, and how many symbols are left at the first wrong one
-abbrev pub Fault : Type 0
-Fault = Why × ℕ
+abbrev pub Miss : Type 0
+Miss = Why × ℕ
 
 -- what was read, and the symbols that are left
 abbrev pub Reading : Type 0 → Type 0
-Reading V = Result (V × List Symbol) Fault
+Reading V = Result (V × List Symbol) Miss
 
 -- a step reads the front of a list of symbols, and nests at most one more than its room
 abbrev pub StepOf : Type 0 → Type 0

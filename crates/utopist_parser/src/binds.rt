@@ -6,9 +6,9 @@ ghost use Rattle.utopist_parser.specs.Lists.{next_at, separated_at};
 ghost use Rattle.utopist_parser.specs.ReadingFile.{bind_at, some_binds_at, binds_at, numeric_at, component_at, kind_at};
 ghost use Rattle.utopist_parser.specs.Symbols.{symbols};
 
+use crate::parse_stop::ParseStop;
 use crate::paths::path_at;
 use crate::step::{fixed_at, name_at, next_is};
-use crate::stop::Stop;
 use sqlite_items::Items;
 use std::alloc::Global;
 use utopist_lexer::{Kind, Mark, Token, Word};
@@ -24,7 +24,7 @@ const NUMERIC: Kind = Kind::Word(Word::Numeric);
 pub fn kind_at<'t, 'a>(
     alloc: Global,
     tokens: &'t [Token<'a>],
-) -> Result<(VarKind, Items<Bind>, &'t [Token<'a>]), Stop>
+) -> Result<(VarKind, Items<Bind>, &'t [Token<'a>]), ParseStop>
     ensures gives { Gives (λ x. ((x.0, x.1), symbols x.2.now)) result (kind_at 63 (symbols tokens.entry.now)) }
     ensures shorter { IfOk result (λ x. length x.2.now < length tokens.entry.now) }
 {
@@ -39,7 +39,7 @@ pub fn kind_at<'t, 'a>(
 fn numeric_at<'t, 'a>(
     alloc: Global,
     tokens: &'t [Token<'a>],
-) -> Result<(VarKind, Items<Bind>, &'t [Token<'a>]), Stop>
+) -> Result<(VarKind, Items<Bind>, &'t [Token<'a>]), ParseStop>
     ensures gives { Gives (λ x. ((x.0, x.1), symbols x.2.now)) result (numeric_at 63 (symbols tokens.entry.now)) }
     ensures shorter { IfOk result (λ x. length x.2.now < length tokens.entry.now) }
 {
@@ -51,7 +51,7 @@ fn numeric_at<'t, 'a>(
 fn component_at<'t, 'a>(
     alloc: Global,
     tokens: &'t [Token<'a>],
-) -> Result<(VarKind, Items<Bind>, &'t [Token<'a>]), Stop>
+) -> Result<(VarKind, Items<Bind>, &'t [Token<'a>]), ParseStop>
     ensures gives { Gives (λ x. ((x.0, x.1), symbols x.2.now)) result (component_at 63 (symbols tokens.entry.now)) }
     ensures shorter { IfOk result (λ x. length x.2.now < length tokens.entry.now) }
 {
@@ -64,7 +64,7 @@ fn component_at<'t, 'a>(
 fn binds_at<'t, 'a>(
     alloc: Global,
     tokens: &'t [Token<'a>],
-) -> Result<(Items<Bind>, &'t [Token<'a>]), Stop>
+) -> Result<(Items<Bind>, &'t [Token<'a>]), ParseStop>
     ensures gives { Gives (λ x. (x.0, symbols x.1.now)) result (binds_at 63 (symbols tokens.entry.now)) }
     ensures shorter { IfOk result (λ x. length x.1.now ≤ length tokens.entry.now) }
 {
@@ -79,7 +79,7 @@ fn binds_at<'t, 'a>(
 fn some_binds_at<'t, 'a>(
     alloc: Global,
     tokens: &'t [Token<'a>],
-) -> Result<(Items<Bind>, &'t [Token<'a>]), Stop>
+) -> Result<(Items<Bind>, &'t [Token<'a>]), ParseStop>
     ensures gives { Gives (λ x. (x.0, symbols x.1.now)) result (some_binds_at 63 (symbols tokens.entry.now)) }
     ensures shorter { IfOk result (λ x. length x.1.now < length tokens.entry.now) }
 {
@@ -92,7 +92,7 @@ fn some_binds_at<'t, 'a>(
 fn separated_binds_at<'t, 'a>(
     alloc: Global,
     tokens: &'t [Token<'a>],
-) -> Result<(Items<Bind>, &'t [Token<'a>]), Stop>
+) -> Result<(Items<Bind>, &'t [Token<'a>]), ParseStop>
     ensures gives { Gives (λ x. (x.0, symbols x.1.now)) result (separated_at Comma bind_at 63 (symbols tokens.entry.now)) }
     ensures shorter { IfOk result (λ x. length x.1.now < length tokens.entry.now) }
 {
@@ -110,7 +110,7 @@ fn separated_binds_at<'t, 'a>(
 fn next_bind_at<'t, 'a>(
     alloc: Global,
     tokens: &'t [Token<'a>],
-) -> Result<(Bind, &'t [Token<'a>]), Stop>
+) -> Result<(Bind, &'t [Token<'a>]), ParseStop>
     ensures gives { Gives (λ x. (x.0, symbols x.1.now)) result (next_at Comma bind_at 63 (symbols tokens.entry.now)) }
     ensures shorter { IfOk result (λ x. length x.1.now < length tokens.entry.now) }
 {
@@ -119,7 +119,10 @@ fn next_bind_at<'t, 'a>(
 }
 
 #[tactic(auto, unfolding(crate::specs::ReadingFile::bind_at))]
-fn bind_at<'t, 'a>(alloc: Global, tokens: &'t [Token<'a>]) -> Result<(Bind, &'t [Token<'a>]), Stop>
+fn bind_at<'t, 'a>(
+    alloc: Global,
+    tokens: &'t [Token<'a>],
+) -> Result<(Bind, &'t [Token<'a>]), ParseStop>
     ensures gives { Gives (λ x. (x.0, symbols x.1.now)) result (bind_at 63 (symbols tokens.entry.now)) }
     ensures shorter { IfOk result (λ x. length x.1.now < length tokens.entry.now) }
 {

@@ -8,9 +8,9 @@ ghost use Rattle.utopist_parser.specs.Steps.{next, meets};
 ghost use Rattle.utopist_parser.specs.Symbols.{symbols};
 
 use crate::given::givens_at;
+use crate::parse_stop::ParseStop;
 use crate::paths::paths_at;
 use crate::step::{fixed_at, name_at, next_is};
-use crate::stop::Stop;
 use sqlite_items::Items;
 use std::alloc::Global;
 use utopist_lexer::{Kind, Mark, Token, Word};
@@ -21,7 +21,7 @@ const COMPUTE: Kind = Kind::Word(Word::Compute);
 pub fn computes_at<'t, 'a>(
     alloc: Global,
     tokens: &'t [Token<'a>],
-) -> Result<(Items<Compute>, &'t [Token<'a>]), Stop>
+) -> Result<(Items<Compute>, &'t [Token<'a>]), ParseStop>
     ensures { Gives (λ x. (x.0, symbols x.1.now)) result (computes_at 63 (symbols tokens.entry.now)) }
 {
     if next_is(tokens, COMPUTE) {
@@ -34,7 +34,7 @@ pub fn computes_at<'t, 'a>(
 fn some_computes_at<'t, 'a>(
     alloc: Global,
     tokens: &'t [Token<'a>],
-) -> Result<(Items<Compute>, &'t [Token<'a>]), Stop>
+) -> Result<(Items<Compute>, &'t [Token<'a>]), ParseStop>
     requires { meets (is_word compute_word) (next (symbols tokens.now)) ≡ true }
     ensures { Gives (λ x. (x.0, symbols x.1.now)) result (computes_at 63 (symbols tokens.entry.now)) }
 {
@@ -53,7 +53,7 @@ fn some_computes_at<'t, 'a>(
 fn compute_at<'t, 'a>(
     alloc: Global,
     tokens: &'t [Token<'a>],
-) -> Result<(Compute, &'t [Token<'a>]), Stop>
+) -> Result<(Compute, &'t [Token<'a>]), ParseStop>
     ensures gives { Gives (λ x. (x.0, symbols x.1.now)) result (compute_at 63 (symbols tokens.entry.now)) }
     ensures shorter { IfOk result (λ x. length x.1.now < length tokens.entry.now) }
 {

@@ -9,9 +9,9 @@ ghost use Rattle.utopist_parser.specs.Steps.{next, meets};
 ghost use Rattle.utopist_parser.specs.Symbols.{symbols};
 
 use crate::item::{begins_item, item_at};
+use crate::parse_stop::ParseStop;
 use crate::paths::names_at;
 use crate::step::{fixed_at, name_at, next_is};
-use crate::stop::Stop;
 use sqlite_items::Items;
 use std::alloc::Global;
 use utopist_lexer::{Kind, Mark, Token, Word};
@@ -24,7 +24,7 @@ const IS: Kind = Kind::Word(Word::Is);
 pub fn concepts_at<'t, 'a>(
     alloc: Global,
     tokens: &'t [Token<'a>],
-) -> Result<(Items<Concept>, &'t [Token<'a>]), Stop>
+) -> Result<(Items<Concept>, &'t [Token<'a>]), ParseStop>
     ensures { Gives (λ x. (map concept_tree x.0, symbols x.1.now)) result (concepts_at 63 (symbols tokens.entry.now)) }
 {
     if next_is(tokens, CONCEPT) {
@@ -37,7 +37,7 @@ pub fn concepts_at<'t, 'a>(
 fn some_concepts_at<'t, 'a>(
     alloc: Global,
     tokens: &'t [Token<'a>],
-) -> Result<(Items<Concept>, &'t [Token<'a>]), Stop>
+) -> Result<(Items<Concept>, &'t [Token<'a>]), ParseStop>
     requires { meets (is_word concept_word) (next (symbols tokens.now)) ≡ true }
     ensures { Gives (λ x. (map concept_tree x.0, symbols x.1.now)) result (concepts_at 63 (symbols tokens.entry.now)) }
 {
@@ -56,7 +56,7 @@ fn some_concepts_at<'t, 'a>(
 fn concept_at<'t, 'a>(
     alloc: Global,
     tokens: &'t [Token<'a>],
-) -> Result<(Concept, &'t [Token<'a>]), Stop>
+) -> Result<(Concept, &'t [Token<'a>]), ParseStop>
     ensures gives { Gives (λ x. (concept_tree x.0, symbols x.1.now)) result (concept_at 63 (symbols tokens.entry.now)) }
     ensures shorter { IfOk result (λ x. length x.1.now < length tokens.entry.now) }
 {
@@ -79,7 +79,7 @@ fn concept_at<'t, 'a>(
 fn parents_at<'t, 'a>(
     alloc: Global,
     tokens: &'t [Token<'a>],
-) -> Result<(Items<Name>, &'t [Token<'a>]), Stop>
+) -> Result<(Items<Name>, &'t [Token<'a>]), ParseStop>
     ensures gives { Gives (λ x. (x.0, symbols x.1.now)) result (parents_at 63 (symbols tokens.entry.now)) }
     ensures shorter { IfOk result (λ x. length x.1.now ≤ length tokens.entry.now) }
 {
@@ -94,7 +94,7 @@ fn parents_at<'t, 'a>(
 fn some_parents_at<'t, 'a>(
     alloc: Global,
     tokens: &'t [Token<'a>],
-) -> Result<(Items<Name>, &'t [Token<'a>]), Stop>
+) -> Result<(Items<Name>, &'t [Token<'a>]), ParseStop>
     ensures gives { Gives (λ x. (x.0, symbols x.1.now)) result (some_parents_at 63 (symbols tokens.entry.now)) }
     ensures shorter { IfOk result (λ x. length x.1.now < length tokens.entry.now) }
 {
@@ -106,7 +106,7 @@ fn some_parents_at<'t, 'a>(
 fn items_at<'t, 'a>(
     alloc: Global,
     tokens: &'t [Token<'a>],
-) -> Result<(Items<Item>, &'t [Token<'a>]), Stop>
+) -> Result<(Items<Item>, &'t [Token<'a>]), ParseStop>
     ensures gives { Gives (λ x. (map item_tree x.0, symbols x.1.now)) result (items_at 63 (symbols tokens.entry.now)) }
     ensures shorter { IfOk result (λ x. length x.1.now < length tokens.entry.now) }
 {

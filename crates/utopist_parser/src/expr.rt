@@ -10,8 +10,8 @@ use crate::breadth::Breadth;
 use crate::forms::{call_at, choice_at, literal_at, loop_at, negated_at, round_at, variable_at};
 use crate::nodes::operation_of;
 use crate::operators::{scale_of, sign_of};
+use crate::parse_stop::ParseStop;
 use crate::step::{next_is, next_is_sub};
-use crate::stop::Stop;
 use std::alloc::Global;
 use utopist_lexer::{Kind, Mark, Token, Word};
 use utopist_syntax::Expr;
@@ -22,7 +22,7 @@ pub fn expr_at<'t, 'a>(
     tokens: &'t [Token<'a>],
     breadth: Breadth,
     room: u32,
-) -> Result<(Expr, u32, &'t [Token<'a>]), Stop>
+) -> Result<(Expr, u32, &'t [Token<'a>]), ParseStop>
     requires { room < 64 }
     ensures gives { Gives (λ x. ((tree_of x.0, x.1), symbols x.2.now)) result (expr_at breadth room (symbols tokens.entry.now)) }
     ensures within { IfOk result (λ x. (1 ≤ x.1) × (x.1 ≤ room + 1)) }
@@ -42,7 +42,7 @@ pub fn chain_at<'t, 'a>(
     tokens: &'t [Token<'a>],
     breadth: Breadth,
     room: u32,
-) -> Result<(Expr, u32, &'t [Token<'a>]), Stop>
+) -> Result<(Expr, u32, &'t [Token<'a>]), ParseStop>
     requires { room < 64 }
     ensures gives { Gives (λ x. ((tree_of x.0, x.1), symbols x.2.now)) result (chain_at breadth room (symbols tokens.entry.now)) }
     ensures within { IfOk result (λ x. (1 ≤ x.1) × (x.1 ≤ room + 1)) }
@@ -51,7 +51,7 @@ pub fn chain_at<'t, 'a>(
     let (mut tree, mut nest, mut rest) = term_at(alloc, tokens, breadth, room)?;
     'parts: while let Some(op) = sign_of(rest) {
         if nest > room {
-            return Err(Stop::TooDeep(rest.len()));
+            return Err(ParseStop::TooDeep(rest.len()));
         }
         let (part, deep, after) = term_at(alloc, &rest[1..], breadth, room - 1)?;
         tree = operation_of(alloc, op, tree, part)?;
@@ -67,7 +67,7 @@ fn term_at<'t, 'a>(
     tokens: &'t [Token<'a>],
     breadth: Breadth,
     room: u32,
-) -> Result<(Expr, u32, &'t [Token<'a>]), Stop>
+) -> Result<(Expr, u32, &'t [Token<'a>]), ParseStop>
     requires { room < 64 }
     ensures gives { Gives (λ x. ((tree_of x.0, x.1), symbols x.2.now)) result (term_at breadth room (symbols tokens.entry.now)) }
     ensures within { IfOk result (λ x. (1 ≤ x.1) × (x.1 ≤ room + 1)) }
@@ -76,7 +76,7 @@ fn term_at<'t, 'a>(
     let (mut tree, mut nest, mut rest) = factor_at(alloc, tokens, breadth, room)?;
     'parts: while let Some(op) = scale_of(rest) {
         if nest > room {
-            return Err(Stop::TooDeep(rest.len()));
+            return Err(ParseStop::TooDeep(rest.len()));
         }
         let (part, deep, after) = factor_at(alloc, &rest[1..], breadth, room - 1)?;
         tree = operation_of(alloc, op, tree, part)?;
@@ -92,7 +92,7 @@ pub fn factor_at<'t, 'a>(
     tokens: &'t [Token<'a>],
     breadth: Breadth,
     room: u32,
-) -> Result<(Expr, u32, &'t [Token<'a>]), Stop>
+) -> Result<(Expr, u32, &'t [Token<'a>]), ParseStop>
     requires { room < 64 }
     ensures gives { Gives (λ x. ((tree_of x.0, x.1), symbols x.2.now)) result (factor_at breadth room (symbols tokens.entry.now)) }
     ensures within { IfOk result (λ x. (1 ≤ x.1) × (x.1 ≤ room + 1)) }
@@ -114,12 +114,12 @@ pub fn factor_at<'t, 'a>(
 }
 
 // The room for what is one level below, where there is room for it.
-fn one_below(tokens: &[Token], room: u32) -> Result<u32, Stop>
+fn one_below(tokens: &[Token], room: u32) -> Result<u32, ParseStop>
     ensures gives { Gives (λ x. (x, symbols tokens.now)) result (deeper room (symbols tokens.now) (Ok (room - 1, symbols tokens.now))) }
     ensures below { IfOk result (λ x. room ≡ suc x) }
 {
     if room == 0 {
-        Err(Stop::TooDeep(tokens.len()))
+        Err(ParseStop::TooDeep(tokens.len()))
     } else {
         Ok(room - 1)
     }

@@ -6,8 +6,8 @@ ghost use Rattle.utopist_parser.specs.Symbols.{symbols};
 
 use crate::compute::computes_at;
 use crate::concept::concepts_at;
+use crate::parse_stop::ParseStop;
 use crate::step::fixed_at;
-use crate::stop::Stop;
 use std::alloc::Global;
 use utopist_lexer::{Kind, Token};
 use utopist_syntax::File;
@@ -16,7 +16,7 @@ use utopist_syntax::File;
 pub fn file_at<'t, 'a>(
     alloc: Global,
     tokens: &'t [Token<'a>],
-) -> Result<(File, &'t [Token<'a>]), Stop>
+) -> Result<(File, &'t [Token<'a>]), ParseStop>
     ensures { Gives (λ x. (file_tree x.0, symbols x.1.now)) result (file_at 63 (symbols tokens.entry.now)) }
 {
     let (concepts, rest) = concepts_at(alloc, tokens)?;

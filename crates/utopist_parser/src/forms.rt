@@ -1,7 +1,7 @@
 //! Reading the forms of expressions. The room is that of their parts.
 ghost use Rattle.std.specs.Prelude.{◌≡◌, ◌<◌, ◌≤◌, ◌+◌, ℕ, length, Ok, IfOk};
 ghost use Rattle.utopist_lexer.specs.declared.mark.Mark.TheVariants.{Comma};
-ghost use Rattle.utopist_syntax.specs.Tree.{Trees};
+ghost use Rattle.utopist_syntax.specs.ExprTree.{ExprTrees};
 ghost use Rattle.utopist_syntax.specs.View.{tree_of, trees_of};
 ghost use Rattle.utopist_parser.specs.Answers.{Gives};
 ghost use Rattle.utopist_parser.specs.Lists.{separated_at};
@@ -14,9 +14,9 @@ use crate::breadth::Breadth;
 use crate::expr::{chain_at, expr_at, factor_at};
 use crate::nodes::{call_of, choice_of, loop_of, negation_of, number_of, variable_of};
 use crate::operators::{cmp_at, loop_kind_at};
+use crate::parse_stop::ParseStop;
 use crate::paths::path_at;
 use crate::step::{fixed_at, name_at, next_is, number_at, sub_at};
-use crate::stop::Stop;
 use sqlite_items::Items;
 use std::alloc::Global;
 use utopist_lexer::{Kind, Mark, Token, Word};
@@ -34,7 +34,7 @@ pub fn negated_at<'t, 'a>(
     tokens: &'t [Token<'a>],
     breadth: Breadth,
     room: u32,
-) -> Result<(Expr, u32, &'t [Token<'a>]), Stop>
+) -> Result<(Expr, u32, &'t [Token<'a>]), ParseStop>
     requires { room < 63 }
     ensures gives { Gives (λ x. ((tree_of x.0, x.1), symbols x.2.now)) result (negated_step (settled (factor_at breadth room)) 63 (symbols tokens.entry.now)) }
     ensures within { IfOk result (λ x. (1 ≤ x.1) × (x.1 ≤ room + 2)) }
@@ -52,7 +52,7 @@ pub fn round_at<'t, 'a>(
     tokens: &'t [Token<'a>],
     breadth: Breadth,
     room: u32,
-) -> Result<(Expr, u32, &'t [Token<'a>]), Stop>
+) -> Result<(Expr, u32, &'t [Token<'a>]), ParseStop>
     requires { room < 63 }
     ensures gives { Gives (λ x. ((tree_of x.0, x.1), symbols x.2.now)) result (round_step (settled (expr_at breadth room)) 63 (symbols tokens.entry.now)) }
     ensures within { IfOk result (λ x. (1 ≤ x.1) × (x.1 ≤ room + 2)) }
@@ -70,7 +70,7 @@ pub fn call_at<'t, 'a>(
     tokens: &'t [Token<'a>],
     breadth: Breadth,
     room: u32,
-) -> Result<(Expr, u32, &'t [Token<'a>]), Stop>
+) -> Result<(Expr, u32, &'t [Token<'a>]), ParseStop>
     requires { room < 63 }
     ensures gives { Gives (λ x. ((tree_of x.0, x.1), symbols x.2.now)) result (call_step (settled (expr_at breadth room)) 63 (symbols tokens.entry.now)) }
     ensures within { IfOk result (λ x. (1 ≤ x.1) × (x.1 ≤ room + 2)) }
@@ -90,9 +90,9 @@ fn args_at<'t, 'a>(
     tokens: &'t [Token<'a>],
     breadth: Breadth,
     room: u32,
-) -> Result<(Items<Expr>, u32, &'t [Token<'a>]), Stop>
+) -> Result<(Items<Expr>, u32, &'t [Token<'a>]), ParseStop>
     requires { room < 63 }
-    ensures gives { Gives {V = Trees × ℕ} (λ x. ((trees_of x.0, x.1), symbols x.2.now)) result (on_ok (separated_at Comma (settled (expr_at breadth room)) 63 (symbols tokens.entry.now)) (λ p. Ok ((trees_in p.0, most p.0), p.1))) }
+    ensures gives { Gives {V = ExprTrees × ℕ} (λ x. ((trees_of x.0, x.1), symbols x.2.now)) result (on_ok (separated_at Comma (settled (expr_at breadth room)) 63 (symbols tokens.entry.now)) (λ p. Ok ((trees_in p.0, most p.0), p.1))) }
     ensures within { IfOk result (λ x. x.1 ≤ room + 1) }
     ensures shorter { IfOk result (λ x. length x.2.now < length tokens.entry.now) }
 {
@@ -116,7 +116,7 @@ fn expr_behind<'t, 'a>(
     kind: Kind,
     breadth: Breadth,
     room: u32,
-) -> Result<(Expr, u32, &'t [Token<'a>]), Stop>
+) -> Result<(Expr, u32, &'t [Token<'a>]), ParseStop>
     requires { room < 63 }
     ensures gives { Gives (λ x. ((tree_of x.0, x.1), symbols x.2.now)) result (on_ok (fixed_at kind 63 (symbols tokens.entry.now)) (λ p. expr_at breadth room p.1)) }
     ensures within { IfOk result (λ x. (1 ≤ x.1) × (x.1 ≤ room + 1)) }
@@ -132,7 +132,7 @@ pub fn loop_at<'t, 'a>(
     tokens: &'t [Token<'a>],
     breadth: Breadth,
     room: u32,
-) -> Result<(Expr, u32, &'t [Token<'a>]), Stop>
+) -> Result<(Expr, u32, &'t [Token<'a>]), ParseStop>
     requires { room < 63 }
     ensures gives { Gives (λ x. ((tree_of x.0, x.1), symbols x.2.now)) result (loop_step (settled (expr_at breadth room)) 63 (symbols tokens.entry.now)) }
     ensures within { IfOk result (λ x. (1 ≤ x.1) × (x.1 ≤ room + 2)) }
@@ -155,7 +155,7 @@ pub fn choice_at<'t, 'a>(
     tokens: &'t [Token<'a>],
     breadth: Breadth,
     room: u32,
-) -> Result<(Expr, u32, &'t [Token<'a>]), Stop>
+) -> Result<(Expr, u32, &'t [Token<'a>]), ParseStop>
     requires { room < 63 }
     ensures gives { Gives (λ x. ((tree_of x.0, x.1), symbols x.2.now)) result (choice_step (settled (chain_at breadth room)) (settled (expr_at breadth room)) 63 (symbols tokens.entry.now)) }
     ensures within { IfOk result (λ x. (1 ≤ x.1) × (x.1 ≤ room + 2)) }
@@ -174,7 +174,7 @@ pub fn choice_at<'t, 'a>(
 pub fn variable_at<'t, 'a>(
     alloc: Global,
     tokens: &'t [Token<'a>],
-) -> Result<(Expr, u32, &'t [Token<'a>]), Stop>
+) -> Result<(Expr, u32, &'t [Token<'a>]), ParseStop>
     ensures gives { Gives (λ x. ((tree_of x.0, x.1), symbols x.2.now)) result (variable_step 63 (symbols tokens.entry.now)) }
     ensures within { IfOk result (λ x. x.1 ≡ 1) }
     ensures shorter { IfOk result (λ x. length x.2.now < length tokens.entry.now) }
@@ -183,7 +183,9 @@ pub fn variable_at<'t, 'a>(
     Ok((variable_of(path), 1, rest))
 }
 
-pub fn literal_at<'t, 'a>(tokens: &'t [Token<'a>]) -> Result<(Expr, u32, &'t [Token<'a>]), Stop>
+pub fn literal_at<'t, 'a>(
+    tokens: &'t [Token<'a>],
+) -> Result<(Expr, u32, &'t [Token<'a>]), ParseStop>
     ensures gives { Gives (λ x. ((tree_of x.0, x.1), symbols x.2.now)) result (literal_step 63 (symbols tokens.entry.now)) }
     ensures within { IfOk result (λ x. x.1 ≡ 1) }
     ensures shorter { IfOk result (λ x. length x.2.now < length tokens.entry.now) }

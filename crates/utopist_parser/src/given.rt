@@ -5,12 +5,12 @@ ghost use Rattle.priz_frac.specs.Sign.{signed_number, signed_ratio};
 ghost use Rattle.utopist_lexer.specs.declared.mark.Mark.TheVariants.{Comma};
 ghost use Rattle.utopist_parser.specs.Answers.{Gives};
 ghost use Rattle.utopist_parser.specs.Lists.{next_at, separated_at};
-ghost use Rattle.utopist_parser.specs.ReadingFile.{negative_at, some_below_at, below_at, some_value_at, value_at, given_at, some_givens_at, givens_at};
+ghost use Rattle.utopist_parser.specs.ReadingFile.{negative_at, some_below_at, below_at, some_value_at, given_value_at, given_at, some_givens_at, givens_at};
 ghost use Rattle.utopist_parser.specs.Symbols.{symbols};
 
+use crate::parse_stop::ParseStop;
 use crate::paths::path_at;
 use crate::step::{divisor_at, fixed_at, next_is, number_at};
-use crate::stop::Stop;
 use priz_frac::Frac;
 use sqlite_items::Items;
 use std::alloc::Global;
@@ -31,7 +31,7 @@ const SLASH: Kind = Kind::Mark(Mark::Slash);
 pub fn givens_at<'t, 'a>(
     alloc: Global,
     tokens: &'t [Token<'a>],
-) -> Result<(Items<GivenPath>, &'t [Token<'a>]), Stop>
+) -> Result<(Items<GivenPath>, &'t [Token<'a>]), ParseStop>
     ensures gives { Gives (λ x. (x.0, symbols x.1.now)) result (givens_at 63 (symbols tokens.entry.now)) }
     ensures shorter { IfOk result (λ x. length x.1.now ≤ length tokens.entry.now) }
 {
@@ -46,7 +46,7 @@ pub fn givens_at<'t, 'a>(
 fn some_givens_at<'t, 'a>(
     alloc: Global,
     tokens: &'t [Token<'a>],
-) -> Result<(Items<GivenPath>, &'t [Token<'a>]), Stop>
+) -> Result<(Items<GivenPath>, &'t [Token<'a>]), ParseStop>
     ensures gives { Gives (λ x. (x.0, symbols x.1.now)) result (some_givens_at 63 (symbols tokens.entry.now)) }
     ensures shorter { IfOk result (λ x. length x.1.now < length tokens.entry.now) }
 {
@@ -59,7 +59,7 @@ fn some_givens_at<'t, 'a>(
 fn separated_givens_at<'t, 'a>(
     alloc: Global,
     tokens: &'t [Token<'a>],
-) -> Result<(Items<GivenPath>, &'t [Token<'a>]), Stop>
+) -> Result<(Items<GivenPath>, &'t [Token<'a>]), ParseStop>
     ensures gives { Gives (λ x. (x.0, symbols x.1.now)) result (separated_at Comma given_at 63 (symbols tokens.entry.now)) }
     ensures shorter { IfOk result (λ x. length x.1.now < length tokens.entry.now) }
 {
@@ -77,7 +77,7 @@ fn separated_givens_at<'t, 'a>(
 fn next_given_at<'t, 'a>(
     alloc: Global,
     tokens: &'t [Token<'a>],
-) -> Result<(GivenPath, &'t [Token<'a>]), Stop>
+) -> Result<(GivenPath, &'t [Token<'a>]), ParseStop>
     ensures gives { Gives (λ x. (x.0, symbols x.1.now)) result (next_at Comma given_at 63 (symbols tokens.entry.now)) }
     ensures shorter { IfOk result (λ x. length x.1.now < length tokens.entry.now) }
 {
@@ -89,20 +89,22 @@ fn next_given_at<'t, 'a>(
 fn given_at<'t, 'a>(
     alloc: Global,
     tokens: &'t [Token<'a>],
-) -> Result<(GivenPath, &'t [Token<'a>]), Stop>
+) -> Result<(GivenPath, &'t [Token<'a>]), ParseStop>
     ensures gives { Gives (λ x. (x.0, symbols x.1.now)) result (given_at 63 (symbols tokens.entry.now)) }
     ensures shorter { IfOk result (λ x. length x.1.now < length tokens.entry.now) }
 {
     let (path, rest) = path_at(alloc, tokens)?;
-    match value_at(rest) {
+    match given_value_at(rest) {
         Ok((value, rest)) => Ok((GivenPath { path, value }, rest)),
         Err(stop) => Err(stop),
     }
 }
 
-#[tactic(auto, unfolding(crate::specs::ReadingFile::value_at))]
-fn value_at<'t, 'a>(tokens: &'t [Token<'a>]) -> Result<(Option<Frac>, &'t [Token<'a>]), Stop>
-    ensures gives { Gives (λ x. (x.0, symbols x.1.now)) result (value_at 63 (symbols tokens.entry.now)) }
+#[tactic(auto, unfolding(crate::specs::ReadingFile::given_value_at))]
+fn given_value_at<'t, 'a>(
+    tokens: &'t [Token<'a>],
+) -> Result<(Option<Frac>, &'t [Token<'a>]), ParseStop>
+    ensures gives { Gives (λ x. (x.0, symbols x.1.now)) result (given_value_at 63 (symbols tokens.entry.now)) }
     ensures shorter { IfOk result (λ x. length x.1.now ≤ length tokens.entry.now) }
 {
     if next_is(tokens, EQUAL) {
@@ -113,7 +115,9 @@ fn value_at<'t, 'a>(tokens: &'t [Token<'a>]) -> Result<(Option<Frac>, &'t [Token
 }
 
 #[tactic(auto, unfolding(crate::specs::ReadingFile::some_value_at))]
-fn some_value_at<'t, 'a>(tokens: &'t [Token<'a>]) -> Result<(Option<Frac>, &'t [Token<'a>]), Stop>
+fn some_value_at<'t, 'a>(
+    tokens: &'t [Token<'a>],
+) -> Result<(Option<Frac>, &'t [Token<'a>]), ParseStop>
     ensures gives { Gives (λ x. (x.0, symbols x.1.now)) result (some_value_at 63 (symbols tokens.entry.now)) }
     ensures shorter { IfOk result (λ x. length x.1.now < length tokens.entry.now) }
 {
@@ -125,7 +129,7 @@ fn some_value_at<'t, 'a>(tokens: &'t [Token<'a>]) -> Result<(Option<Frac>, &'t [
 }
 
 #[tactic(auto, unfolding(crate::specs::ReadingFile::negative_at, crate::specs::ReadingFile::minus_at))]
-fn negative_at<'t, 'a>(tokens: &'t [Token<'a>]) -> Result<(bool, &'t [Token<'a>]), Stop>
+fn negative_at<'t, 'a>(tokens: &'t [Token<'a>]) -> Result<(bool, &'t [Token<'a>]), ParseStop>
     ensures gives { Gives (λ x. (x.0, symbols x.1.now)) result (negative_at 63 (symbols tokens.entry.now)) }
     ensures shorter { IfOk result (λ x. length x.1.now ≤ length tokens.entry.now) }
 {
@@ -138,7 +142,7 @@ fn negative_at<'t, 'a>(tokens: &'t [Token<'a>]) -> Result<(bool, &'t [Token<'a>]
 }
 
 #[tactic(auto, unfolding(crate::specs::ReadingFile::below_at))]
-fn below_at<'t, 'a>(tokens: &'t [Token<'a>]) -> Result<(i64, &'t [Token<'a>]), Stop>
+fn below_at<'t, 'a>(tokens: &'t [Token<'a>]) -> Result<(i64, &'t [Token<'a>]), ParseStop>
     ensures gives { Gives (λ x. (x.0, symbols x.1.now)) result (below_at 63 (symbols tokens.entry.now)) }
     ensures positive { IfOk result (λ x. pos 0 <ℤ x.0) }
     ensures shorter { IfOk result (λ x. length x.1.now ≤ length tokens.entry.now) }
@@ -151,7 +155,7 @@ fn below_at<'t, 'a>(tokens: &'t [Token<'a>]) -> Result<(i64, &'t [Token<'a>]), S
 }
 
 #[tactic(auto, unfolding(crate::specs::ReadingFile::some_below_at))]
-fn some_below_at<'t, 'a>(tokens: &'t [Token<'a>]) -> Result<(i64, &'t [Token<'a>]), Stop>
+fn some_below_at<'t, 'a>(tokens: &'t [Token<'a>]) -> Result<(i64, &'t [Token<'a>]), ParseStop>
     ensures gives { Gives (λ x. (x.0, symbols x.1.now)) result (some_below_at 63 (symbols tokens.entry.now)) }
     ensures positive { IfOk result (λ x. pos 0 <ℤ x.0) }
     ensures shorter { IfOk result (λ x. length x.1.now < length tokens.entry.now) }

@@ -1,6 +1,6 @@
 //! Reading items.
 ghost use Rattle.std.specs.Prelude.{◌≡◌, ◌<◌, ◌≤◌, length, IfOk};
-ghost use Rattle.utopist_syntax.specs.FileTree.{body_tree, item_tree};
+ghost use Rattle.utopist_syntax.specs.FileTree.{body_expr_tree, item_tree};
 ghost use Rattle.utopist_parser.specs.Answers.{Gives};
 ghost use Rattle.utopist_parser.specs.ReadingFile.{var_at, eq_at, some_body_at, body_at, rel_at, item_at, begins_item};
 ghost use Rattle.utopist_parser.specs.Steps.{next, meets};
@@ -9,10 +9,10 @@ ghost use Rattle.utopist_parser.specs.Symbols.{symbols};
 use crate::binds::kind_at;
 use crate::breadth::Breadth;
 use crate::expr::{chain_at, expr_at};
+use crate::parse_stop::ParseStop;
 use crate::parts::parts_at;
 use crate::paths::{names_at, path_at};
 use crate::step::{fixed_at, name_at, next_is};
-use crate::stop::Stop;
 use std::alloc::Global;
 use utopist_lexer::{Kind, Mark, Token, Word};
 use utopist_syntax::{Expr, Item};
@@ -42,7 +42,7 @@ pub fn begins_item(tokens: &[Token]) -> bool
 pub fn item_at<'t, 'a>(
     alloc: Global,
     tokens: &'t [Token<'a>],
-) -> Result<(Item, &'t [Token<'a>]), Stop>
+) -> Result<(Item, &'t [Token<'a>]), ParseStop>
     ensures gives { Gives (λ x. (item_tree x.0, symbols x.1.now)) result (item_at 63 (symbols tokens.entry.now)) }
     ensures shorter { IfOk result (λ x. length x.1.now < length tokens.entry.now) }
 {
@@ -56,7 +56,10 @@ pub fn item_at<'t, 'a>(
 }
 
 #[tactic(auto, unfolding(crate::specs::ReadingFile::var_at))]
-fn var_at<'t, 'a>(alloc: Global, tokens: &'t [Token<'a>]) -> Result<(Item, &'t [Token<'a>]), Stop>
+fn var_at<'t, 'a>(
+    alloc: Global,
+    tokens: &'t [Token<'a>],
+) -> Result<(Item, &'t [Token<'a>]), ParseStop>
     ensures gives { Gives (λ x. (item_tree x.0, symbols x.1.now)) result (var_at 63 (symbols tokens.entry.now)) }
     ensures shorter { IfOk result (λ x. length x.1.now < length tokens.entry.now) }
 {
@@ -69,7 +72,10 @@ fn var_at<'t, 'a>(alloc: Global, tokens: &'t [Token<'a>]) -> Result<(Item, &'t [
 }
 
 #[tactic(auto, unfolding(crate::specs::ReadingFile::eq_at))]
-fn eq_at<'t, 'a>(alloc: Global, tokens: &'t [Token<'a>]) -> Result<(Item, &'t [Token<'a>]), Stop>
+fn eq_at<'t, 'a>(
+    alloc: Global,
+    tokens: &'t [Token<'a>],
+) -> Result<(Item, &'t [Token<'a>]), ParseStop>
     ensures gives { Gives (λ x. (item_tree x.0, symbols x.1.now)) result (eq_at 63 (symbols tokens.entry.now)) }
     ensures shorter { IfOk result (λ x. length x.1.now < length tokens.entry.now) }
 {
@@ -82,7 +88,10 @@ fn eq_at<'t, 'a>(alloc: Global, tokens: &'t [Token<'a>]) -> Result<(Item, &'t [T
 }
 
 #[tactic(auto, unfolding(crate::specs::ReadingFile::rel_at))]
-fn rel_at<'t, 'a>(alloc: Global, tokens: &'t [Token<'a>]) -> Result<(Item, &'t [Token<'a>]), Stop>
+fn rel_at<'t, 'a>(
+    alloc: Global,
+    tokens: &'t [Token<'a>],
+) -> Result<(Item, &'t [Token<'a>]), ParseStop>
     ensures gives { Gives (λ x. (item_tree x.0, symbols x.1.now)) result (rel_at 63 (symbols tokens.entry.now)) }
     ensures shorter { IfOk result (λ x. length x.1.now < length tokens.entry.now) }
 {
@@ -107,8 +116,8 @@ fn rel_at<'t, 'a>(alloc: Global, tokens: &'t [Token<'a>]) -> Result<(Item, &'t [
 fn body_at<'t, 'a>(
     alloc: Global,
     tokens: &'t [Token<'a>],
-) -> Result<(Option<Expr>, &'t [Token<'a>]), Stop>
-    ensures gives { Gives (λ x. (body_tree x.0, symbols x.1.now)) result (body_at 63 (symbols tokens.entry.now)) }
+) -> Result<(Option<Expr>, &'t [Token<'a>]), ParseStop>
+    ensures gives { Gives (λ x. (body_expr_tree x.0, symbols x.1.now)) result (body_at 63 (symbols tokens.entry.now)) }
     ensures shorter { IfOk result (λ x. length x.1.now ≤ length tokens.entry.now) }
 {
     if next_is(tokens, OPEN) {
@@ -122,8 +131,8 @@ fn body_at<'t, 'a>(
 fn some_body_at<'t, 'a>(
     alloc: Global,
     tokens: &'t [Token<'a>],
-) -> Result<(Option<Expr>, &'t [Token<'a>]), Stop>
-    ensures gives { Gives (λ x. (body_tree x.0, symbols x.1.now)) result (some_body_at 63 (symbols tokens.entry.now)) }
+) -> Result<(Option<Expr>, &'t [Token<'a>]), ParseStop>
+    ensures gives { Gives (λ x. (body_expr_tree x.0, symbols x.1.now)) result (some_body_at 63 (symbols tokens.entry.now)) }
     ensures shorter { IfOk result (λ x. length x.1.now < length tokens.entry.now) }
 {
     let rest = fixed_at(tokens, OPEN)?;

@@ -13,12 +13,12 @@ mod item;
 mod laws;
 mod nodes;
 mod operators;
+mod parse_stop;
 mod parser;
 mod parts;
 mod paths;
 mod scan;
 mod step;
-mod stop;
 #[cfg(test)]
 mod tests;
 

@@ -1,6 +1,6 @@
 //! Nodes of the tree.
 ghost use Rattle.std.specs.Prelude.{◌≡◌, IfOk};
-ghost use Rattle.utopist_syntax.specs.Tree.{num, path, neg, op as op_tree, choice, loop as loop_tree, call};
+ghost use Rattle.utopist_syntax.specs.ExprTree.{num, path, neg, op as op_tree, choice, loop as loop_tree, call};
 ghost use Rattle.utopist_syntax.specs.View.{tree_of, trees_of};
 
 use body_lang::{Cmp, LoopKind, Op};

@@ -5,8 +5,8 @@ ghost use Rattle.utopist_parser.specs.ReadingExpr.{sign_of, scale_of, loop_of, c
 ghost use Rattle.utopist_parser.specs.Steps.{next, pick_at};
 ghost use Rattle.utopist_parser.specs.Symbols.{symbols};
 
+use crate::parse_stop::ParseStop;
 use crate::step::next_is;
-use crate::stop::Stop;
 use body_lang::{Cmp, LoopKind, Op};
 use utopist_lexer::{Kind, Mark, Token, Word};
 
@@ -62,22 +62,24 @@ fn cmp_of(tokens: &[Token]) -> Option<Cmp>
     }
 }
 
-pub fn loop_kind_at<'t, 'a>(tokens: &'t [Token<'a>]) -> Result<(LoopKind, &'t [Token<'a>]), Stop>
+pub fn loop_kind_at<'t, 'a>(
+    tokens: &'t [Token<'a>],
+) -> Result<(LoopKind, &'t [Token<'a>]), ParseStop>
     ensures gives { Gives (λ x. (x.0, symbols x.1.now)) result (pick_at loop_of 63 (symbols tokens.entry.now)) }
     ensures shorter { IfOk result (λ x. length x.1.now < length tokens.entry.now) }
 {
     match loop_of(tokens) {
         Some(kind) => Ok((kind, &tokens[1..])),
-        None => Err(Stop::Expected(tokens.len())),
+        None => Err(ParseStop::Expected(tokens.len())),
     }
 }
 
-pub fn cmp_at<'t, 'a>(tokens: &'t [Token<'a>]) -> Result<(Cmp, &'t [Token<'a>]), Stop>
+pub fn cmp_at<'t, 'a>(tokens: &'t [Token<'a>]) -> Result<(Cmp, &'t [Token<'a>]), ParseStop>
     ensures gives { Gives (λ x. (x.0, symbols x.1.now)) result (pick_at cmp_of 63 (symbols tokens.entry.now)) }
     ensures shorter { IfOk result (λ x. length x.1.now < length tokens.entry.now) }
 {
     match cmp_of(tokens) {
         Some(cmp) => Ok((cmp, &tokens[1..])),
-        None => Err(Stop::Expected(tokens.len())),
+        None => Err(ParseStop::Expected(tokens.len())),
     }
 }

@@ -7,8 +7,8 @@ ghost use Rattle.utopist_parser.specs.Answers.{PlaceOf};
 ghost use Rattle.utopist_parser.specs.Forms.{ParseOf};
 
 use crate::file::file_at;
+use crate::parse_stop::ParseStop;
 use crate::scan::scan;
-use crate::stop::Stop;
 use priz_base::{NoMem, Place};
 use std::alloc::Global;
 use utopist_lexer::{LexFault, Token};
@@ -38,15 +38,15 @@ pub fn parse(alloc: Global, text: &str) -> Result<File, ParseFault>
     };
     match file_at(alloc, &tokens) {
         Ok((file, _)) => Ok(file),
-        Err(Stop::Expected(left)) => match place_at(&tokens, left, fault) {
+        Err(ParseStop::Expected(left)) => match place_at(&tokens, left, fault) {
             Ok(place) => Err(ParseFault::Expected(place)),
             Err(fault) => Err(ParseFault::Lex(fault)),
         },
-        Err(Stop::TooDeep(left)) => match place_at(&tokens, left, fault) {
+        Err(ParseStop::TooDeep(left)) => match place_at(&tokens, left, fault) {
             Ok(place) => Err(ParseFault::TooDeep(place)),
             Err(fault) => Err(ParseFault::Lex(fault)),
         },
-        Err(Stop::NoMem) => Err(ParseFault::NoMem),
+        Err(ParseStop::NoMem) => Err(ParseFault::NoMem),
     }
 }
 

@@ -7,9 +7,9 @@ ghost use Rattle.utopist_parser.specs.ReadingFile.{input_at, subtask_at, part_at
 ghost use Rattle.utopist_parser.specs.Steps.{next, meets};
 ghost use Rattle.utopist_parser.specs.Symbols.{symbols};
 
+use crate::parse_stop::ParseStop;
 use crate::paths::{path_at, paths_at};
 use crate::step::{fixed_at, next_is};
-use crate::stop::Stop;
 use sqlite_items::Items;
 use std::alloc::Global;
 use utopist_lexer::{Kind, Mark, Token};
@@ -23,7 +23,7 @@ const COMMA: Kind = Kind::Mark(Mark::Comma);
 pub fn parts_at<'t, 'a>(
     alloc: Global,
     tokens: &'t [Token<'a>],
-) -> Result<(Items<Part>, &'t [Token<'a>]), Stop>
+) -> Result<(Items<Part>, &'t [Token<'a>]), ParseStop>
     ensures gives { Gives (λ x. (x.0, symbols x.1.now)) result (parts_at 63 (symbols tokens.entry.now)) }
     ensures shorter { IfOk result (λ x. length x.1.now ≤ length tokens.entry.now) }
 {
@@ -43,7 +43,7 @@ fn begins_part(tokens: &[Token]) -> bool
 fn some_parts_at<'t, 'a>(
     alloc: Global,
     tokens: &'t [Token<'a>],
-) -> Result<(Items<Part>, &'t [Token<'a>]), Stop>
+) -> Result<(Items<Part>, &'t [Token<'a>]), ParseStop>
     ensures gives { Gives (λ x. (x.0, symbols x.1.now)) result (some_parts_at 63 (symbols tokens.entry.now)) }
     ensures shorter { IfOk result (λ x. length x.1.now < length tokens.entry.now) }
 {
@@ -61,7 +61,7 @@ fn some_parts_at<'t, 'a>(
 fn next_part_at<'t, 'a>(
     alloc: Global,
     tokens: &'t [Token<'a>],
-) -> Result<(Part, &'t [Token<'a>]), Stop>
+) -> Result<(Part, &'t [Token<'a>]), ParseStop>
     ensures gives { Gives (λ x. (x.0, symbols x.1.now)) result (next_at Comma part_at 63 (symbols tokens.entry.now)) }
     ensures shorter { IfOk result (λ x. length x.1.now < length tokens.entry.now) }
 {
@@ -70,7 +70,10 @@ fn next_part_at<'t, 'a>(
 }
 
 #[tactic(auto, unfolding(crate::specs::ReadingFile::part_at))]
-fn part_at<'t, 'a>(alloc: Global, tokens: &'t [Token<'a>]) -> Result<(Part, &'t [Token<'a>]), Stop>
+fn part_at<'t, 'a>(
+    alloc: Global,
+    tokens: &'t [Token<'a>],
+) -> Result<(Part, &'t [Token<'a>]), ParseStop>
     ensures gives { Gives (λ x. (x.0, symbols x.1.now)) result (part_at 63 (symbols tokens.entry.now)) }
     ensures shorter { IfOk result (λ x. length x.1.now < length tokens.entry.now) }
 {
@@ -82,7 +85,10 @@ fn part_at<'t, 'a>(alloc: Global, tokens: &'t [Token<'a>]) -> Result<(Part, &'t 
 }
 
 #[tactic(auto, unfolding(crate::specs::ReadingFile::input_at))]
-fn input_at<'t, 'a>(alloc: Global, tokens: &'t [Token<'a>]) -> Result<(Part, &'t [Token<'a>]), Stop>
+fn input_at<'t, 'a>(
+    alloc: Global,
+    tokens: &'t [Token<'a>],
+) -> Result<(Part, &'t [Token<'a>]), ParseStop>
     ensures gives { Gives (λ x. (x.0, symbols x.1.now)) result (input_at 63 (symbols tokens.entry.now)) }
     ensures shorter { IfOk result (λ x. length x.1.now < length tokens.entry.now) }
 {
@@ -94,7 +100,7 @@ fn input_at<'t, 'a>(alloc: Global, tokens: &'t [Token<'a>]) -> Result<(Part, &'t
 fn subtask_at<'t, 'a>(
     alloc: Global,
     tokens: &'t [Token<'a>],
-) -> Result<(Part, &'t [Token<'a>]), Stop>
+) -> Result<(Part, &'t [Token<'a>]), ParseStop>
     ensures gives { Gives (λ x. (x.0, symbols x.1.now)) result (subtask_at 63 (symbols tokens.entry.now)) }
     ensures shorter { IfOk result (λ x. length x.1.now < length tokens.entry.now) }
 {

@@ -6,8 +6,8 @@ ghost use Rattle.utopist_parser.specs.Lists.{next_at, separated_at, names_at, pa
 ghost use Rattle.utopist_parser.specs.Single.{name_at};
 ghost use Rattle.utopist_parser.specs.Symbols.{symbols};
 
+use crate::parse_stop::ParseStop;
 use crate::step::{fixed_at, name_at, next_is};
-use crate::stop::Stop;
 use sqlite_items::Items;
 use std::alloc::{AllocError, Global};
 use utopist_lexer::{Kind, Mark, Token};
@@ -19,7 +19,7 @@ const COMMA: Kind = Kind::Mark(Mark::Comma);
 pub fn names_at<'t, 'a>(
     alloc: Global,
     tokens: &'t [Token<'a>],
-) -> Result<(Items<Name>, &'t [Token<'a>]), Stop>
+) -> Result<(Items<Name>, &'t [Token<'a>]), ParseStop>
     ensures gives { Gives (λ x. (x.0, symbols x.1.now)) result (names_at 63 (symbols tokens.entry.now)) }
     ensures shorter { IfOk result (λ x. length x.1.now < length tokens.entry.now) }
 {
@@ -30,7 +30,7 @@ pub fn names_at<'t, 'a>(
 pub fn path_at<'t, 'a>(
     alloc: Global,
     tokens: &'t [Token<'a>],
-) -> Result<(Path, &'t [Token<'a>]), Stop>
+) -> Result<(Path, &'t [Token<'a>]), ParseStop>
     ensures gives { Gives (λ x. (x.0, symbols x.1.now)) result (path_at 63 (symbols tokens.entry.now)) }
     ensures shorter { IfOk result (λ x. length x.1.now < length tokens.entry.now) }
 {
@@ -42,7 +42,7 @@ fn separated_at<'t, 'a>(
     alloc: Global,
     tokens: &'t [Token<'a>],
     separator: Mark,
-) -> Result<(Items<Name>, &'t [Token<'a>]), Stop>
+) -> Result<(Items<Name>, &'t [Token<'a>]), ParseStop>
     ensures gives { Gives (λ x. (x.0, symbols x.1.now)) result (separated_at separator name_at 63 (symbols tokens.entry.now)) }
     ensures shorter { IfOk result (λ x. length x.1.now < length tokens.entry.now) }
 {
@@ -68,7 +68,7 @@ fn next_name_at<'t, 'a>(
     alloc: Global,
     tokens: &'t [Token<'a>],
     separator: Mark,
-) -> Result<(Name, &'t [Token<'a>]), Stop>
+) -> Result<(Name, &'t [Token<'a>]), ParseStop>
     ensures gives { Gives (λ x. (x.0, symbols x.1.now)) result (next_at separator name_at 63 (symbols tokens.entry.now)) }
     ensures shorter { IfOk result (λ x. length x.1.now < length tokens.entry.now) }
 {
@@ -79,7 +79,7 @@ fn next_name_at<'t, 'a>(
 pub fn paths_at<'t, 'a>(
     alloc: Global,
     tokens: &'t [Token<'a>],
-) -> Result<(Items<Path>, &'t [Token<'a>]), Stop>
+) -> Result<(Items<Path>, &'t [Token<'a>]), ParseStop>
     ensures gives { Gives (λ x. (x.0, symbols x.1.now)) result (paths_at 63 (symbols tokens.entry.now)) }
     ensures shorter { IfOk result (λ x. length x.1.now < length tokens.entry.now) }
 {
@@ -97,7 +97,7 @@ pub fn paths_at<'t, 'a>(
 fn next_path_at<'t, 'a>(
     alloc: Global,
     tokens: &'t [Token<'a>],
-) -> Result<(Path, &'t [Token<'a>]), Stop>
+) -> Result<(Path, &'t [Token<'a>]), ParseStop>
     ensures gives { Gives (λ x. (x.0, symbols x.1.now)) result (next_at Comma path_at 63 (symbols tokens.entry.now)) }
     ensures shorter { IfOk result (λ x. length x.1.now < length tokens.entry.now) }
 {

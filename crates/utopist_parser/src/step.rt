@@ -5,7 +5,7 @@ ghost use Rattle.utopist_parser.specs.Single.{is_kind, is_sub, fixed_at, name_at
 ghost use Rattle.utopist_parser.specs.Steps.{next, meets};
 ghost use Rattle.utopist_parser.specs.Symbols.{symbols};
 
-use crate::stop::Stop;
+use crate::parse_stop::ParseStop;
 use priz_base::Place;
 use std::alloc::Global;
 use utopist_lexer::{Kind, Token};
@@ -30,14 +30,14 @@ pub fn next_is_sub(tokens: &[Token]) -> bool
 }
 
 #[tactic(auto, unfolding(crate::specs::Single::fixed_at))]
-pub fn fixed_at<'t, 'a>(tokens: &'t [Token<'a>], kind: Kind) -> Result<&'t [Token<'a>], Stop>
+pub fn fixed_at<'t, 'a>(tokens: &'t [Token<'a>], kind: Kind) -> Result<&'t [Token<'a>], ParseStop>
     ensures gives { Gives (λ x. (tt, symbols x.now)) result (fixed_at kind 63 (symbols tokens.entry.now)) }
     ensures shorter { IfOk result (λ x. length x.now < length tokens.entry.now) }
 {
     if next_is(tokens, kind) {
         Ok(&tokens[1..])
     } else {
-        Err(Stop::Expected(tokens.len()))
+        Err(ParseStop::Expected(tokens.len()))
     }
 }
 
@@ -45,59 +45,59 @@ pub fn fixed_at<'t, 'a>(tokens: &'t [Token<'a>], kind: Kind) -> Result<&'t [Toke
 pub fn name_at<'t, 'a>(
     alloc: Global,
     tokens: &'t [Token<'a>],
-) -> Result<(Name, &'t [Token<'a>]), Stop>
+) -> Result<(Name, &'t [Token<'a>]), ParseStop>
     ensures gives { Gives (λ x. (x.0, symbols x.1.now)) result (name_at 63 (symbols tokens.entry.now)) }
     ensures shorter { IfOk result (λ x. length x.1.now < length tokens.entry.now) }
 {
     let [first, rest @ ..] = tokens else {
-        return Err(Stop::Expected(0));
+        return Err(ParseStop::Expected(0));
     };
     match first.kind {
         Kind::Name => Ok((Name::new(alloc, first.text, first.place())?, rest)),
-        _ => Err(Stop::Expected(tokens.len())),
+        _ => Err(ParseStop::Expected(tokens.len())),
     }
 }
 
 #[tactic(auto, unfolding(crate::specs::Single::number_at))]
-pub fn number_at<'t, 'a>(tokens: &'t [Token<'a>]) -> Result<(i64, &'t [Token<'a>]), Stop>
+pub fn number_at<'t, 'a>(tokens: &'t [Token<'a>]) -> Result<(i64, &'t [Token<'a>]), ParseStop>
     ensures gives { Gives (λ x. (x.0, symbols x.1.now)) result (number_at 63 (symbols tokens.entry.now)) }
     ensures natural { IfOk result (λ x. pos 0 ≤ℤ x.0) }
     ensures shorter { IfOk result (λ x. length x.1.now < length tokens.entry.now) }
 {
     let [first, rest @ ..] = tokens else {
-        return Err(Stop::Expected(0));
+        return Err(ParseStop::Expected(0));
     };
     match first.kind {
         Kind::Number(n) if n >= 0 => Ok((n, rest)),
-        _ => Err(Stop::Expected(tokens.len())),
+        _ => Err(ParseStop::Expected(tokens.len())),
     }
 }
 
 #[tactic(auto, unfolding(crate::specs::Single::divisor_at))]
-pub fn divisor_at<'t, 'a>(tokens: &'t [Token<'a>]) -> Result<(i64, &'t [Token<'a>]), Stop>
+pub fn divisor_at<'t, 'a>(tokens: &'t [Token<'a>]) -> Result<(i64, &'t [Token<'a>]), ParseStop>
     ensures gives { Gives (λ x. (x.0, symbols x.1.now)) result (divisor_at 63 (symbols tokens.entry.now)) }
     ensures positive { IfOk result (λ x. pos 0 <ℤ x.0) }
     ensures shorter { IfOk result (λ x. length x.1.now < length tokens.entry.now) }
 {
     let [first, rest @ ..] = tokens else {
-        return Err(Stop::Expected(0));
+        return Err(ParseStop::Expected(0));
     };
     match first.kind {
         Kind::Number(n) if n > 0 => Ok((n, rest)),
-        _ => Err(Stop::Expected(tokens.len())),
+        _ => Err(ParseStop::Expected(tokens.len())),
     }
 }
 
 #[tactic(auto, unfolding(crate::specs::Single::sub_at))]
-pub fn sub_at<'t, 'a>(tokens: &'t [Token<'a>]) -> Result<((i64, Place), &'t [Token<'a>]), Stop>
+pub fn sub_at<'t, 'a>(tokens: &'t [Token<'a>]) -> Result<((i64, Place), &'t [Token<'a>]), ParseStop>
     ensures gives { Gives (λ x. (x.0, symbols x.1.now)) result (sub_at 63 (symbols tokens.entry.now)) }
     ensures shorter { IfOk result (λ x. length x.1.now < length tokens.entry.now) }
 {
     let [first, rest @ ..] = tokens else {
-        return Err(Stop::Expected(0));
+        return Err(ParseStop::Expected(0));
     };
     match first.kind {
         Kind::Sub(k) if k >= 0 => Ok(((k, first.place()), rest)),
-        _ => Err(Stop::Expected(tokens.len())),
+        _ => Err(ParseStop::Expected(tokens.len())),
     }
 }

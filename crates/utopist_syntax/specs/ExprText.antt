@@ -9,7 +9,7 @@ use Rattle.body_lang.specs.declared.loop_kind.LoopKind.{LoopKind}
 use Rattle.body_lang.specs.declared.loop_kind.LoopKind.TheVariants.{Sum, Prod, Iter}
 use Rattle.utopist_syntax.specs.declared.position.Position.{Position}
 use Rattle.utopist_syntax.specs.declared.position.Position.TheVariants.{Alone, Compared, Negated, LeftOf, RightOf}
-use Rattle.utopist_syntax.specs.Tree.{Tree, Trees, num, path, neg, op, choice, loop, call, none, more}
+use Rattle.utopist_syntax.specs.ExprTree.{ExprTree, ExprTrees, num, path, neg, op, choice, loop, call, none, more}
 use Rattle.utopist_syntax.specs.PathText.{names_text}
 use Rattle.utopist_syntax.specs.Round.{round, rounds_op, rounds_choice}
 
@@ -33,12 +33,12 @@ loop_text Prod = codes "prod"
 loop_text Iter = codes "iter"
 
 -- a call of the k-th subtask, with the text of its arguments
-abbrev pub called : ℤ → List ℕ → List ℕ
-called k args = codes "$" ++ (signed_decimal k ++ (codes "(" ++ (args ++ codes ")")))
+abbrev pub call_text : ℤ → List ℕ → List ℕ
+call_text k args = codes "$" ++ (signed_decimal k ++ (codes "(" ++ (args ++ codes ")")))
 
 abbrev mutual
   -- an expression at its position
-  pub text_at : Position → Tree → List ℕ
+  pub text_at : Position → ExprTree → List ℕ
   text_at p (num n) = signed_decimal n
   text_at p (path names) = names_text (codes ".") names
   text_at p (neg a) = codes "-" ++ text_at Negated a
@@ -50,18 +50,18 @@ abbrev mutual
   text_at p (loop kind name a b e) =
       (loop_text kind ++ (codes "(" ++ name.text)) ++ ((codes ", " ++ text_at Alone a)
       ++ ((codes ", " ++ text_at Alone b) ++ ((codes ", " ++ text_at Alone e) ++ codes ")")))
-  text_at p (call k place args) = called k (args_text args)
+  text_at p (call k place args) = call_text k (args_text args)
 
   -- arguments joined by commas
-  pub args_text : Trees → List ℕ
+  pub args_text : ExprTrees → List ℕ
   args_text none = []
-  args_text (more a rest) = text_at Alone a ++ more_text rest
+  args_text (more a rest) = text_at Alone a ++ more_args_text rest
 
   -- the arguments behind another
-  pub more_text : Trees → List ℕ
-  more_text none = []
-  more_text (more a rest) = codes ", " ++ (text_at Alone a ++ more_text rest)
+  pub more_args_text : ExprTrees → List ℕ
+  more_args_text none = []
+  more_args_text (more a rest) = codes ", " ++ (text_at Alone a ++ more_args_text rest)
 
 -- an expression on its own
-abbrev pub expr_text : Tree → List ℕ
+abbrev pub expr_text : ExprTree → List ℕ
 expr_text t = text_at Alone t

@@ -11,14 +11,14 @@ use Rattle.utopist_syntax.specs.declared.concept.Concept.{Concept}
 use Rattle.utopist_syntax.specs.declared.compute.Compute.{Compute}
 use Rattle.utopist_syntax.specs.declared.file.File.{File}
 use Rattle.utopist_syntax.specs.Named.{Named}
-use Rattle.utopist_syntax.specs.Tree.{Tree}
+use Rattle.utopist_syntax.specs.ExprTree.{ExprTree}
 use Rattle.utopist_syntax.specs.View.{tree_of}
 
 -- an item of a concept
 pub data ItemTree : Type 0 where
   var : List Named → VarKind → List Bind → ItemTree
-  eq : Tree → Tree → ItemTree
-  rel : Named → List Part → Path → Option Tree → ItemTree
+  eq : ExprTree → ExprTree → ItemTree
+  rel : Named → List Part → Path → Option ExprTree → ItemTree
 
 -- a concept
 pub record ConceptTree : Type 0 where
@@ -32,15 +32,15 @@ pub record FileTree : Type 0 where
   pub computes : List Compute
 
 -- the tree of a body, where there is one
-abbrev pub body_tree : Option Expr → Option Tree
-body_tree None = None
-body_tree (Some e) = Some (tree_of e)
+abbrev pub body_expr_tree : Option Expr → Option ExprTree
+body_expr_tree None = None
+body_expr_tree (Some e) = Some (tree_of e)
 
 -- an item's tree
 abbrev pub item_tree : Item → ItemTree
 item_tree (Var names kind binds) = var names kind binds
 item_tree (Eq left right) = eq (tree_of left) (tree_of right)
-item_tree (Rel name parts output body) = rel name parts output (body_tree body)
+item_tree (Rel name parts output body) = rel name parts output (body_expr_tree body)
 
 -- a concept's tree
 abbrev pub concept_tree : Concept → ConceptTree

@@ -1,5 +1,5 @@
 pub mod Named
-pub mod Tree
+pub mod ExprTree
 pub mod View
 pub mod FileTree
 pub mod Asks

@@ -1,6 +1,6 @@
 ghost use Rattle.std.specs.Prelude.{◌≡◌, ◌++◌, codes, OnOk};
 ghost use Rattle.utopist_syntax.specs.View.{tree_of, trees_of};
-ghost use Rattle.utopist_syntax.specs.ExprText.{op_text, cmp_text, loop_text, text_at, args_text, called, expr_text};
+ghost use Rattle.utopist_syntax.specs.ExprText.{op_text, cmp_text, loop_text, text_at, args_text, call_text, expr_text};
 
 use crate::pieces::{print_if, print_number, print_text};
 use crate::position::Position;
@@ -79,7 +79,7 @@ fn print_part(
 
 #[cycle(expr)]
 fn print_call(k: i64, args: &[Expr], out: &mut Vec<u8>) -> Result<(), NoMem>
-    ensures { OnOk result (out.new.items ≡ out.old.items ++ called k (args_text (trees_of args.now))) }
+    ensures { OnOk result (out.new.items ≡ out.old.items ++ call_text k (args_text (trees_of args.now))) }
 {
     out.push(b'$')?;
     print_number(k, out)?;

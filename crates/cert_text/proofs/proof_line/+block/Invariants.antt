@@ -1,6 +1,6 @@
 use Rattle.std.proofs.Common.{◌≡◌, ◌+◌, ◌<◌, ◌++◌, drop}
 use Rattle.std.specs.Prelude.{codes}
-use Rattle.proof_term.specs.Plain.{subs_of, steps_of, size_of, subs_size, sub_size}
+use Rattle.proof_term.specs.Plain.{subs_of, steps_of, block_size, subs_size, sub_size}
 use Rattle.cert_text.specs.BlockText.{steps_text, subs_text}
 use Rattle.cert_text.proofs.Pieces.{after_text}
 use Rattle.cert_text.proofs.proof_line.+block.Given as goal
@@ -15,7 +15,7 @@ invariant-write_subs-loop-sub l =
     (l.before < 256) × (l.out.items ++ after_text l.before (drop l.sub-index l.subs) ≡ l.fn.out.items ++ subs_text (subs_of l.subs))
 
 abbrev pub decreases-write_block : goal.decreases-write_block
-decreases-write_block l = size_of l.block.now
+decreases-write_block l = block_size l.block.now
 
 abbrev pub decreases-write_step : goal.decreases-write_step
 decreases-write_step l = 1 + subs_size (subs_of l.step.now.subs)

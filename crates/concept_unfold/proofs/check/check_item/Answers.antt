@@ -1,7 +1,7 @@
 use Rattle.std.proofs.Common.{List, [], ◌∷◌, ◌++◌, refl, ap, ◌∙◌, subst}
 use Rattle.std.proofs.lemmas.Result.{err_from_is_err_and}
 use Rattle.utopist_syntax.specs.declared.item.Part.{Part}
-use Rattle.utopist_syntax.specs.FileTree.{item_tree, body_tree}
+use Rattle.utopist_syntax.specs.FileTree.{item_tree, body_expr_tree}
 use Rattle.concept_unfold.specs.declared.fault.Rule.TheVariants as rule
 use Rattle.concept_unfold.specs.Paths.{inputs_of, input_names}
 use Rattle.concept_unfold.specs.Rows.{is_new, AllHold, FailsFirst, Checks, Row}
@@ -18,7 +18,7 @@ returns-in_err-declare_operator-in-Rel-clause-rules c =
     let n = c.in-Rel.name in
     let parts = c.in-Rel.parts in
     let o = c.in-Rel.output in
-    let body = body_tree c.in-Rel.body in
+    let body = body_expr_tree c.in-Rel.body in
     let shape = ap item_tree c.in-Rel.is in
     let p = err_from_is_err_and c.from_residual.result c.from_residual.ensures.1 in
     rw (p.1, p.2)
@@ -34,7 +34,7 @@ returns-in_err-expect_inputs_known-in-Rel-clause-rules c =
     let n = c.in-Rel.name in
     let parts = c.in-Rel.parts in
     let o = c.in-Rel.output in
-    let body = body_tree c.in-Rel.body in
+    let body = body_expr_tree c.in-Rel.body in
     let inputs = inputs_of parts in
     let e = c.in_err-expect_inputs_known-in-Rel.field-0.0 in
     let same = same_known vars c.variables.result.now inputs (inputs_of c.as_slice-in-Rel.result.now) (c.variables.ensures ∙ c.in_ok-declare_operator-in-Rel.ensures.variables) (ap inputs_of c.as_slice-in-Rel.ensures) in
@@ -52,7 +52,7 @@ returns-in_err-expect_known-in-Rel-clause-rules c =
     let n = c.in-Rel.name in
     let parts = c.in-Rel.parts in
     let o = c.in-Rel.output in
-    let body = body_tree c.in-Rel.body in
+    let body = body_expr_tree c.in-Rel.body in
     let inputs = inputs_of parts in
     let outputs = o ∷ [] in
     let e = c.in_err-expect_known-in-Rel.field-0.0 in
@@ -73,7 +73,7 @@ returns-in_ok-expect_known-in-Rel-clause-rules c =
     let n = c.in-Rel.name in
     let parts = c.in-Rel.parts in
     let o = c.in-Rel.output in
-    let body = body_tree c.in-Rel.body in
+    let body = body_expr_tree c.in-Rel.body in
     let inputs = inputs_of parts in
     let outputs = o ∷ [] in
     let r = c.check_body.result in

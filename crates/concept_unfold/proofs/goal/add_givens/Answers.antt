@@ -8,7 +8,7 @@ use Rattle.concept_unfold.specs.Paths.{first_name, given_names, IsOneOf}
 use Rattle.concept_unfold.specs.Declarations.{texts}
 use Rattle.concept_unfold.specs.Rows.{is_new, Row}
 use Rattle.concept_unfold.specs.ConceptRules.{at_name, once_rows}
-use Rattle.concept_unfold.specs.Unfolded.{number}
+use Rattle.concept_unfold.specs.Unfolded.{var_number}
 use Rattle.concept_unfold.proofs.Once.{nothing_seen, given_known_at, given_before, not_given_before, given_step, givens_more, names_more, seen_more}
 use Rattle.concept_unfold.proofs.Passing.{Passed, all_left, at_next, at_end, passed_more, fails_next, fails_at, one_holds}
 use Rattle.concept_unfold.proofs.goal.add_givens.Goals as goal
@@ -34,7 +34,7 @@ returns-then-has-clause-once c =
     let n = first_name g.path in
     let start = c.args.problem.now.names in
     let vars = ap (λ (p : Task). p.names) c.loop-given.invariant.same in
-    let var = c.var_of-var.ensures.number ∙ ap (λ (vs : List (List ℕ)). number vs g.path) vars in
+    let var = c.var_of-var.ensures.number ∙ ap (λ (vs : List (List ℕ)). var_number vs g.path) vars in
     let among = (c.loop-given.invariant.seen c.var_of-var.result).0 (c.has.ensures.0 c.if-has.true) in
     let before = given_before start gs i g c.loop-given.problem.givens c.var_of-var.result c.loop-given-test.true c.given-item.is c.requires.known c.loop-given.invariant.givens var among in
     let rows : List GivenPath → List Row = λ hs. once_rows rule.DuplicateInput (texts (given_names (take i gs))) (given_names hs) in
@@ -64,7 +64,7 @@ loop-given-preserved c =
     let e = c.in_ok-add_given.ensures.ok in
     let givens = ap (λ (r : Task). r.givens) e in
     let vars = ap (λ (r : Task). r.names) c.loop-given.invariant.same in
-    let var = c.var_of-var.ensures.number ∙ ap (λ (vs : List (List ℕ)). number vs g.path) vars in
+    let var = c.var_of-var.ensures.number ∙ ap (λ (vs : List (List ℕ)). var_number vs g.path) vars in
     let fresh = not_given_before start.names gs i g p.givens v c.loop-given.invariant.givens var
     (λ h. not_so c.has.result c.has.ensures c.if-has.false ((c.loop-given.invariant.seen v).1 h)) in
     let names = texts (given_names (take i gs)) in

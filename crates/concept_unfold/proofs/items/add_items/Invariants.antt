@@ -6,7 +6,7 @@ use Rattle.concept_unfold.specs.Limits.{max_statements}
 use Rattle.concept_unfold.specs.Declarations.{all_variables}
 use Rattle.concept_unfold.specs.Rows.{AllHold}
 use Rattle.concept_unfold.specs.ConceptRules.{items_rows}
-use Rattle.concept_unfold.specs.UnfoldingRules.{statements_in}
+use Rattle.concept_unfold.specs.UnfoldingRules.{item_statements}
 use Rattle.concept_unfold.specs.Unfolded.{statements_of}
 use Rattle.concept_unfold.proofs.items.add_items.Given as goal
 
@@ -16,7 +16,7 @@ invariant-loop-item l = record {
   follows : (names : List (List ℕ)) × All (Contains names) l.problem.names × AllHold (items_rows names l.problem.names (map item_tree (drop l.item-index l.items)));
   variables : l.problem.names ++ all_variables (map item_tree (drop l.item-index l.items)) ≡ all_variables (map item_tree l.items);
   statements : l.problem.statements ++ flat_map (statements_of (all_variables (map item_tree l.items))) (map item_tree (drop l.item-index l.items)) ≡ flat_map (statements_of (all_variables (map item_tree l.items))) (map item_tree l.items);
-  room : length l.problem.statements + sum_by statements_in (map item_tree (drop l.item-index l.items)) ≤ max_statements;
+  room : length l.problem.statements + sum_by item_statements (map item_tree (drop l.item-index l.items)) ≤ max_statements;
   givens : l.problem.givens ≡ [];
   wants : l.problem.wants ≡ [];
 }

@@ -5,10 +5,10 @@ use Rattle.std.proofs.lemmas.List.Elements.{All-nil}
 use Rattle.statement_set.specs.declared.subtask.Subtask.{Subtask}
 use Rattle.statement_set.specs.declared.statement.Statement.{Statement}
 use Rattle.statement_set.specs.Problem.{var_count, IsSubtaskOver}
-use Rattle.utopist_syntax.specs.FileTree.{body_tree}
+use Rattle.utopist_syntax.specs.FileTree.{body_expr_tree}
 use Rattle.concept_unfold.specs.Paths.{inputs_of, input_names}
 use Rattle.concept_unfold.specs.Bodies.{body_over}
-use Rattle.concept_unfold.specs.Unfolded.{number}
+use Rattle.concept_unfold.specs.Unfolded.{var_number}
 use Rattle.concept_unfold.proofs.GoodBodies.{body_passes, fits_statement}
 use Rattle.concept_unfold.proofs.items.add_statement.Goals as goal
 
@@ -18,8 +18,8 @@ add_statement-requires-clause-vars c =
     let n = var_count c.args.problem.now in
     let inputs = c.in_ok-inputs.inputs in
     let parts = c.args.parts.now in
-    let tree = body_tree c.args.body.now in
-    let count = ap length c.in_ok-inputs.ensures.numbers ∙ length-map (inputs_of parts) (number names) in
+    let tree = body_expr_tree c.args.body.now in
+    let count = ap length c.in_ok-inputs.ensures.numbers ∙ length-map (inputs_of parts) (var_number names) in
     let good = body_passes parts tree (length inputs) c.requires.built c.requires.body count in
     let made : Statement = record { inputs = inputs; subs = c.new-subs.result; output = c.var_of-output.result; body = c.in_ok-body.body } in
     record {

@@ -3,7 +3,7 @@ use Rattle.std.specs.List.{sum_by}
 use Rattle.std.proofs.lemmas.Result.{err_from_is_err_and}
 use Rattle.utopist_syntax.specs.FileTree.{item_tree}
 use Rattle.concept_unfold.specs.Declarations.{all_variables}
-use Rattle.concept_unfold.specs.UnfoldingRules.{size_of, statements_in, limit_rows}
+use Rattle.concept_unfold.specs.UnfoldingRules.{item_size, item_statements, limit_rows}
 use Rattle.concept_unfold.proofs.Passing.{fails_next, decides_last}
 use Rattle.concept_unfold.proofs.Stages.{path_count, variable_count, size_count, statement_count, at_paths, at_variables, at_size, at_statements}
 use Rattle.concept_unfold.proofs.limits.check_limits.Goals as goal
@@ -36,7 +36,7 @@ returns-in_err-expect_at_most-3 c =
     let p = err_from_is_err_and c.from_residual-in_err-expect_at_most-3.result c.from_residual-in_err-expect_at_most-3.ensures.1 in
     rw (p.1, p.2)
     (fails_next (limit_rows x items) (size_count x items) (statement_count x items) (at_size x items (c.in_ok-expect_at_most.ensures n variables) (c.in_ok-expect_at_most-2.ensures n variables))
-    c.in_err-expect_at_most-3.field-0.0 (c.in_err-expect_at_most-3.ensures (sum_by size_of items) c.count-counts.ensures.size))
+    c.in_err-expect_at_most-3.field-0.0 (c.in_err-expect_at_most-3.ensures (sum_by item_size items) c.count-counts.ensures.size))
 
 pub returns : goal.returns
 returns c =
@@ -45,5 +45,5 @@ returns c =
     let n = length (all_variables items) in
     let variables = c.count-counts.ensures.variables in
     decides_last (limit_rows x items) (statement_count x items)
-    (at_statements x items (c.in_ok-expect_at_most.ensures n variables) (c.in_ok-expect_at_most-2.ensures n variables) (c.in_ok-expect_at_most-3.ensures (sum_by size_of items) c.count-counts.ensures.size))
-    c.expect_at_most-4.result (c.expect_at_most-4.ensures (sum_by statements_in items) c.count-counts.ensures.statements)
+    (at_statements x items (c.in_ok-expect_at_most.ensures n variables) (c.in_ok-expect_at_most-2.ensures n variables) (c.in_ok-expect_at_most-3.ensures (sum_by item_size items) c.count-counts.ensures.size))
+    c.expect_at_most-4.result (c.expect_at_most-4.ensures (sum_by item_statements items) c.count-counts.ensures.statements)

@@ -4,7 +4,7 @@ use Rattle.std.proofs.lemmas.List.Concat.{length-flat_map}
 use Rattle.std.proofs.lemmas.List.Folds.{fold-map}
 use Rattle.utopist_syntax.specs.FileTree.{item_tree}
 use Rattle.concept_unfold.specs.Declarations.{variables}
-use Rattle.concept_unfold.specs.UnfoldingRules.{size_of, statements_in}
+use Rattle.concept_unfold.specs.UnfoldingRules.{item_size, item_statements}
 use Rattle.concept_unfold.proofs.limits.count.Goals as goal
 
 pub returns-clause-variables : goal.returns-clause-variables
@@ -17,10 +17,10 @@ pub returns-clause-size : goal.returns-clause-size
 returns-clause-size c =
     let items = c.args.items.now in
     let e = take_all c.loop-item.item-index items c.loop-item-test.false in
-    rw (fold-map (λ a x. a + size_of x) item_tree 0 items) (rw e at c.loop-item.invariant.size)
+    rw (fold-map (λ a x. a + item_size x) item_tree 0 items) (rw e at c.loop-item.invariant.size)
 
 pub returns-clause-statements : goal.returns-clause-statements
 returns-clause-statements c =
     let items = c.args.items.now in
     let e = take_all c.loop-item.item-index items c.loop-item-test.false in
-    rw (fold-map (λ a x. a + statements_in x) item_tree 0 items) (rw e at c.loop-item.invariant.statements)
+    rw (fold-map (λ a x. a + item_statements x) item_tree 0 items) (rw e at c.loop-item.invariant.statements)

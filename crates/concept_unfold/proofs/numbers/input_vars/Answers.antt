@@ -3,7 +3,7 @@ use Rattle.std.proofs.lemmas.List.{take_all}
 use Rattle.utopist_syntax.specs.declared.item.Part.{Part}
 use Rattle.statement_set.specs.Problem.{var_count, AreVars}
 use Rattle.concept_unfold.specs.Paths.{inputs_of}
-use Rattle.concept_unfold.specs.Unfolded.{number}
+use Rattle.concept_unfold.specs.Unfolded.{var_number}
 use Rattle.concept_unfold.proofs.Places.{numbers_below}
 use Rattle.concept_unfold.proofs.Progress.{inputs_known_at}
 use Rattle.concept_unfold.proofs.numbers.input_vars.Goals as goal
@@ -15,5 +15,5 @@ pub returns-clause-below : goal.returns-clause-below
 returns-clause-below c =
     let names = c.args.problem.now.names in
     let parts = c.args.parts.now in
-    let all = ap (λ (ps : List Part). map (number names) (inputs_of ps)) (take_all c.loop-part.part-index parts c.loop-part-test.false) in
+    let all = ap (λ (ps : List Part). map (var_number names) (inputs_of ps)) (take_all c.loop-part.part-index parts c.loop-part-test.false) in
     subst (AreVars (var_count c.args.problem.now)) (sym (c.loop-part.invariant ∙ all)) (numbers_below names (inputs_of parts) c.requires)

@@ -4,7 +4,7 @@ use Rattle.body_lang.specs.View.{body_tree}
 use Rattle.body_lang.specs.Mode.{narrowly}
 use Rattle.body_lang.specs.Meaning.{mean}
 use Rattle.proof_term.specs.LocalValues.{local_values}
-use Rattle.proof_term.specs.Agrees.{part_at}
+use Rattle.proof_term.specs.Agrees.{repeated_part}
 use Rattle.proof_term.proofs.LocalPlaces.{inside_values}
 use Rattle.proof_term.proofs.LoopRounds.{agrees_along, turn_passes, rounds_more, round_stops, joining_stops, replaced_more, replacing_stops}
 use Rattle.proof_term.proofs.LoopForms.{sum_is, product_is, iteration_is}
@@ -37,37 +37,37 @@ evaluate-returns-in_ok-y-in-Iter t c = λ owner answer.
 pub round-returns : goal.round-returns
 round-returns t c = λ owner answer.
     agrees_along owner c.evaluate.result _ _
-    (turn_passes owner (part_at owner answer (body_tree c.args.each.now) c.args.inputs.now (local_values c.args.locals.now)) c.args.value c.args.turns (omega (arith, c.if-turns-eq0.false))
+    (turn_passes owner (repeated_part owner answer (body_tree c.args.each.now) c.args.inputs.now (local_values c.args.locals.now)) c.args.value c.args.turns (omega (arith, c.if-turns-eq0.false))
     ∙ ap (λ l. mean narrowly owner answer (body_tree c.args.each.now) c.args.inputs.now l (c.args.turns - 1)) (sym (inside_values c.args.value c.args.locals)))
     (c.evaluate.ensures owner answer)
 
 pub gather_between-loop-k-preserved : goal.gather_between-loop-k-preserved
 gather_between-loop-k-preserved t c = λ owner answer.
     c.loop-k.invariant owner answer
-    ∙ rounds_more owner (part_at owner answer (body_tree c.args.each.now) c.args.inputs.now (local_values c.args.locals.now)) c.args.op c.round_count-count.result c.loop-k.k c.args.first.num c.loop-k.total c.in_ok-value.value c.in_ok-total.field-0-0 c.loop-k.left c.in_ok-value.rest c.in_ok-total.field-0-1 c.loop-k-test.true (rw (← c.round_value.ensures) (c.in_ok-value.ensures owner answer)) (c.in_ok-total.ensures owner)
+    ∙ rounds_more owner (repeated_part owner answer (body_tree c.args.each.now) c.args.inputs.now (local_values c.args.locals.now)) c.args.op c.round_count-count.result c.loop-k.k c.args.first.num c.loop-k.total c.in_ok-value.value c.in_ok-total.field-0-0 c.loop-k.left c.in_ok-value.rest c.in_ok-total.field-0-1 c.loop-k-test.true (rw (← c.round_value.ensures) (c.in_ok-value.ensures owner answer)) (c.in_ok-total.ensures owner)
 
 pub gather_between-returns-in_err-value : goal.gather_between-returns-in_err-value
 gather_between-returns-in_err-value t c = λ owner answer.
     let p = err_from_is_err_and c.from_residual.result c.from_residual.ensures.1 in
     rw (p.1, p.2, ← c.round_count-count.ensures)
     (c.loop-k.invariant owner answer
-    ∙ round_stops owner (part_at owner answer (body_tree c.args.each.now) c.args.inputs.now (local_values c.args.locals.now)) c.args.op c.round_count-count.result c.loop-k.k c.args.first.num c.loop-k.total c.loop-k.left _ c.loop-k-test.true (rw (← c.round_value.ensures) (c.in_err-value.ensures owner answer)))
+    ∙ round_stops owner (repeated_part owner answer (body_tree c.args.each.now) c.args.inputs.now (local_values c.args.locals.now)) c.args.op c.round_count-count.result c.loop-k.k c.args.first.num c.loop-k.total c.loop-k.left _ c.loop-k-test.true (rw (← c.round_value.ensures) (c.in_err-value.ensures owner answer)))
 
 pub gather_between-returns-in_err-total : goal.gather_between-returns-in_err-total
 gather_between-returns-in_err-total t c = λ owner answer.
     let p = err_from_is_err_and c.from_residual-in_err-total.result c.from_residual-in_err-total.ensures.1 in
     rw (p.1, p.2, ← c.round_count-count.ensures)
     (c.loop-k.invariant owner answer
-    ∙ joining_stops owner (part_at owner answer (body_tree c.args.each.now) c.args.inputs.now (local_values c.args.locals.now)) c.args.op c.round_count-count.result c.loop-k.k c.args.first.num c.loop-k.total c.in_ok-value.value c.loop-k.left c.in_ok-value.rest _ c.loop-k-test.true (rw (← c.round_value.ensures) (c.in_ok-value.ensures owner answer)) (c.in_err-total.ensures owner))
+    ∙ joining_stops owner (repeated_part owner answer (body_tree c.args.each.now) c.args.inputs.now (local_values c.args.locals.now)) c.args.op c.round_count-count.result c.loop-k.k c.args.first.num c.loop-k.total c.in_ok-value.value c.loop-k.left c.in_ok-value.rest _ c.loop-k-test.true (rw (← c.round_value.ensures) (c.in_ok-value.ensures owner answer)) (c.in_err-total.ensures owner))
 
 pub replace_times-loop-round-preserved : goal.replace_times-loop-round-preserved
 replace_times-loop-round-preserved t c = λ owner answer.
     c.loop-round.invariant owner answer
-    ∙ replaced_more owner (part_at owner answer (body_tree c.args.each.now) c.args.inputs.now (local_values c.args.locals.now)) c.args.count c.loop-round._round c.loop-round.value c.in_ok-value.field-0-0 c.loop-round.left c.in_ok-value.field-0-1 c.loop-round-test.true (c.in_ok-value.ensures owner answer)
+    ∙ replaced_more owner (repeated_part owner answer (body_tree c.args.each.now) c.args.inputs.now (local_values c.args.locals.now)) c.args.count c.loop-round._round c.loop-round.value c.in_ok-value.field-0-0 c.loop-round.left c.in_ok-value.field-0-1 c.loop-round-test.true (c.in_ok-value.ensures owner answer)
 
 pub replace_times-returns-in_err-value : goal.replace_times-returns-in_err-value
 replace_times-returns-in_err-value t c = λ owner answer.
     let p = err_from_is_err_and c.from_residual.result c.from_residual.ensures.1 in
     rw (p.1, p.2)
     (c.loop-round.invariant owner answer
-    ∙ replacing_stops owner (part_at owner answer (body_tree c.args.each.now) c.args.inputs.now (local_values c.args.locals.now)) c.args.count c.loop-round._round c.loop-round.value c.loop-round.left _ c.loop-round-test.true (c.in_err-value.ensures owner answer))
+    ∙ replacing_stops owner (repeated_part owner answer (body_tree c.args.each.now) c.args.inputs.now (local_values c.args.locals.now)) c.args.count c.loop-round._round c.loop-round.value c.loop-round.left _ c.loop-round-test.true (c.in_err-value.ensures owner answer))

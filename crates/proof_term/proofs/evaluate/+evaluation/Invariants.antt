@@ -1,21 +1,21 @@
 use Rattle.std.proofs.Common.{◌≡◌, ℕ, ◌-◌, pos, ◌+ℤ◌}
 use Rattle.body_lang.specs.View.{body_tree}
 use Rattle.body_lang.specs.Mode.{narrowly}
-use Rattle.body_lang.specs.Meaning.{Answer}
+use Rattle.body_lang.specs.Meaning.{Calls}
 use Rattle.body_lang.specs.Rounds.{rounds, replacements}
 use Rattle.proof_term.specs.LocalValues.{local_values}
-use Rattle.proof_term.specs.Agrees.{part_at}
+use Rattle.proof_term.specs.Agrees.{repeated_part}
 use Rattle.proof_term.proofs.evaluate.+evaluation.Given as goal
 
 -- the rounds that are left give what all of them give
 abbrev pub invariant-gather_between-loop-k : goal.invariant-gather_between-loop-k
 invariant-gather_between-loop-k l =
-    (owner : ℕ) (answer : Answer) →
-    rounds narrowly owner l.op (part_at owner answer (body_tree l.each) l.inputs (local_values l.locals)) l.count l.first.num l.fn.start l.turns
-    ≡ rounds narrowly owner l.op (part_at owner answer (body_tree l.each) l.inputs (local_values l.locals)) (l.count - l.k) (l.first.num +ℤ pos l.k) l.total l.left
+    (owner : ℕ) (answer : Calls) →
+    rounds narrowly owner l.op (repeated_part owner answer (body_tree l.each) l.inputs (local_values l.locals)) l.count l.first.num l.fn.start l.turns
+    ≡ rounds narrowly owner l.op (repeated_part owner answer (body_tree l.each) l.inputs (local_values l.locals)) (l.count - l.k) (l.first.num +ℤ pos l.k) l.total l.left
 
 abbrev pub invariant-replace_times-loop-round : goal.invariant-replace_times-loop-round
 invariant-replace_times-loop-round l =
-    (owner : ℕ) (answer : Answer) →
-    replacements narrowly owner (part_at owner answer (body_tree l.each) l.inputs (local_values l.locals)) l.count l.fn.start l.turns
-    ≡ replacements narrowly owner (part_at owner answer (body_tree l.each) l.inputs (local_values l.locals)) (l.count - l._round) l.value l.left
+    (owner : ℕ) (answer : Calls) →
+    replacements narrowly owner (repeated_part owner answer (body_tree l.each) l.inputs (local_values l.locals)) l.count l.fn.start l.turns
+    ≡ replacements narrowly owner (repeated_part owner answer (body_tree l.each) l.inputs (local_values l.locals)) (l.count - l._round) l.value l.left

@@ -1,12 +1,12 @@
 //! Why a reading stops.
 ghost use Rattle.std.specs.Prelude.{◌≡◌};
-ghost use Rattle.utopist_parser.specs.declared.stop.Stop.TheVariants.{NoMem};
+ghost use Rattle.utopist_parser.specs.declared.parse_stop.ParseStop.TheVariants.{NoMem};
 
 use std::alloc::{AllocError, AllocFailed};
 
 /// Why a reading stops.
 #[derive(Clone, Copy)]
-pub enum Stop {
+pub enum ParseStop {
     NoMem,
     /// How many tokens are left at the first wrong one.
     Expected(usize),
@@ -14,26 +14,26 @@ pub enum Stop {
     TooDeep(usize),
 }
 
-impl From<AllocError> for Stop {
+impl From<AllocError> for ParseStop {
     ghost from_gives = { λ _ e. e ≡ NoMem };
 
-    fn from(_error: AllocError) -> Stop {
-        Stop::NoMem
+    fn from(_error: AllocError) -> ParseStop {
+        ParseStop::NoMem
     }
 }
 
-impl From<priz_base::NoMem> for Stop {
+impl From<priz_base::NoMem> for ParseStop {
     ghost from_gives = { λ _ e. e ≡ NoMem };
 
-    fn from(_error: priz_base::NoMem) -> Stop {
-        Stop::NoMem
+    fn from(_error: priz_base::NoMem) -> ParseStop {
+        ParseStop::NoMem
     }
 }
 
-impl<T: Drop> From<AllocFailed<T>> for Stop {
+impl<T: Drop> From<AllocFailed<T>> for ParseStop {
     ghost from_gives = { λ _ e. e ≡ NoMem };
 
-    fn from(_error: AllocFailed<T>) -> Stop {
-        Stop::NoMem
+    fn from(_error: AllocFailed<T>) -> ParseStop {
+        ParseStop::NoMem
     }
 }
