@@ -12,7 +12,7 @@ use std::alloc::Global;
 /// A program with its proof and what it computes, or a refusal with its countermodel.
 pub fn answer(alloc: Global, problem: &Problem, effort: &Effort) -> Result<Answer, NoMem>
     requires { IsPlain problem.now }
-    ensures { IfOk result (IsAnswer problem.now effort.now.turns) }
+    ensures { IfOk result (IsAnswer problem.now effort.now) }
 {
     match search(alloc, problem)? {
         Found::Derived(block) => {

@@ -1,4 +1,5 @@
-ghost use Rattle.std.specs.Prelude.{◌≡◌, ◌≤◌, ℕ, [], ◌∷◌, ◌++◌, length, OnOk};
+ghost use Rattle.std.specs.Prelude.{◌≡◌, ◌≤◌, [], ◌∷◌, ◌++◌, length, OnOk};
+ghost use Rattle.answer_core.specs.declared.effort.Effort.{Effort};
 ghost use Rattle.answer_core.specs.Answers.{IsAnswer};
 ghost use Rattle.answer_core.specs.Report.{head_text, value_line, value_lines, fault_line, values_text, answer_text};
 ghost use Rattle.answer_core.specs.Named.{HasNames};
@@ -21,7 +22,7 @@ pub fn render(
     out: &mut Vec<u8>,
 ) -> Result<(), NoMem>
     requires index { 1 ≤ index }
-    requires answer { (turns : ℕ) × IsAnswer problem.now turns answer.now }
+    requires answer { (effort : Effort) × IsAnswer problem.now effort answer.now }
     ensures { OnOk result (out.new.items ≡ out.old.items ++ answer_text problem.now index answer.now) }
 {
     problem.is_well_formed();

@@ -14,7 +14,7 @@ use Rattle.body_lang.specs.declared.op.Op.TheVariants.{Add, Sub, Mul, Div}
 use Rattle.body_lang.specs.BodyTree.{BodyTree, BodyTrees, num, input, local, neg, op, choice, total, product, iterate, call, none, more}
 use Rattle.body_lang.specs.Follows.{CallsFollow, CallsFollowOnRows, RunFollows, RunFollowsOnRows}
 use Rattle.body_lang.specs.Meaning.{Calls, mean, mean_all}
-use Rattle.body_lang.specs.Mode.{narrowly, exactly}
+use Rattle.body_lang.specs.Precision.{narrowly, exactly}
 use Rattle.body_lang.specs.Operation.{operate, as_run, holds, value_in}
 use Rattle.body_lang.specs.Rounds.{one_round, rounds, round_count, rounds_between, replacements, replacements_for}
 use Rattle.body_lang.specs.Run.{Ran, then_with, then_both}

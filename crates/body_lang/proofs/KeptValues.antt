@@ -12,7 +12,7 @@ use Rattle.body_lang.specs.declared.op.Op.TheVariants.{Add, Mul}
 use Rattle.body_lang.specs.BodyTree.{BodyTree, BodyTrees, num, input, local, neg, op, choice, total, product, iterate, call, none, more}
 use Rattle.body_lang.specs.Keeping.{NumbersHave, AllNumbersHave, EndsIn, AnswersKeep, MeaningKeeps}
 use Rattle.body_lang.specs.Meaning.{Calls, mean, mean_all}
-use Rattle.body_lang.specs.Mode.{Mode, narrowly, exactly}
+use Rattle.body_lang.specs.Precision.{Precision, narrowly, exactly}
 use Rattle.body_lang.specs.Operation.{operate, as_run, holds}
 use Rattle.body_lang.specs.Rounds.{one_round, rounds, round_count, rounds_between, replacements, replacements_for}
 use Rattle.body_lang.specs.Run.{Ran, then_with, then_both}
@@ -20,11 +20,11 @@ use Rattle.body_lang.specs.Stop.{Stop}
 use Rattle.body_lang.specs.Values.{value_at}
 
 -- what a property has to fulfil: constants, negatives, the operators' values and the variables of loops have it
-pub record IsKept (P : Ratio → Type 0) (mode : Mode) : Type 0 where
+pub record IsKept (P : Ratio → Type 0) (precision : Precision) : Type 0 where
   pub nought : P (whole (pos 0))
   pub one : P (whole (pos 1))
   pub negative : (x : Ratio) → P x → P (negative_of x)
-  pub result : (o : Op) (x y : Ratio) → P x → P y → IfOk (operate mode o x y) P
+  pub result : (o : Op) (x y : Ratio) → P x → P y → IfOk (operate precision o x y) P
   pub between : (x y : Ratio) (a b : ℤ) → P x → P y → whole_of x ≡ Some a → whole_of y ≡ Some b → (j : ℕ) → j < round_count a b → P (whole (a +ℤ pos j))
 
 next_whole : (i : ℤ) (j : ℕ) → (i +ℤ pos 1) +ℤ pos j ≡ i +ℤ pos (suc j)
@@ -33,7 +33,7 @@ next_whole i j = omega (arith, ints)
 first_whole : (i : ℤ) → i +ℤ pos 0 ≡ i
 first_whole i = omega (arith, ints)
 
-module _ (P : Ratio → Type 0) (mode : Mode) (kept : IsKept P mode) where
+module _ (P : Ratio → Type 0) (precision : Precision) (kept : IsKept P precision) where
   value_keeps : (vs : List Ratio) (i : ℕ) → All P vs → P (value_at vs i)
   value_keeps [] i h = kept.nought
   value_keeps (v ∷ vs) zero h = h 0 v (omega arith)
@@ -50,8 +50,8 @@ module _ (P : Ratio → Type 0) (mode : Mode) (kept : IsKept P mode) where
   run_ends owner t (Ok v) h = h
   run_ends owner t (Err e) h = tt
 
-  operation_ends : (owner t : ℕ) (o : Op) (x y : Ratio) → P x → P y → EndsIn P (as_run owner t (operate mode o x y))
-  operation_ends owner t o x y p q = run_ends owner t (operate mode o x y) (kept.result o x y p q)
+  operation_ends : (owner t : ℕ) (o : Op) (x y : Ratio) → P x → P y → EndsIn P (as_run owner t (operate precision o x y))
+  operation_ends owner t o x y p q = run_ends owner t (operate precision o x y) (kept.result o x y p q)
 
   -- the values of several parts
   abbrev then_cons : Ran → (ℕ → Result (List Ratio × ℕ) Stop) → Result (List Ratio × ℕ) Stop
@@ -73,41 +73,41 @@ module _ (P : Ratio → Type 0) (mode : Mode) (kept : IsKept P mode) where
   branch_ends false r s h k = k
 
   module _ (owner : ℕ) (each : Ratio → ℕ → Ran) (h : (x : Ratio) (t : ℕ) → P x → EndsIn P (each x t)) where
-    round_ends : (m : Mode) (x : Ratio) (t : ℕ) → P x → EndsIn P (one_round m owner each x t)
+    round_ends : (m : Precision) (x : Ratio) (t : ℕ) → P x → EndsIn P (one_round m owner each x t)
     round_ends narrowly x zero p = tt
     round_ends narrowly x (suc t) p = h x t p
     round_ends exactly x t p = h x t p
 
-    rounds_end : (o : Op) (n : ℕ) (i : ℤ) (x : Ratio) (t : ℕ) → ((j : ℕ) → j < n → P (whole (i +ℤ pos j))) → P x → EndsIn P (rounds mode owner o each n i x t)
+    rounds_end : (o : Op) (n : ℕ) (i : ℤ) (x : Ratio) (t : ℕ) → ((j : ℕ) → j < n → P (whole (i +ℤ pos j))) → P x → EndsIn P (rounds precision owner o each n i x t)
     rounds_end o zero i x t k p = p
     rounds_end o (suc n) i x t k p =
-        then_ends P (one_round mode owner each (whole i) t) _ (round_ends mode (whole i) t (subst (λ z. P (whole z)) (first_whole i) (k 0 (omega arith))))
-        (λ v u q. then_ends P (as_run owner u (operate mode o x v)) _ (operation_ends owner u o x v p q)
+        then_ends P (one_round precision owner each (whole i) t) _ (round_ends precision (whole i) t (subst (λ z. P (whole z)) (first_whole i) (k 0 (omega arith))))
+        (λ v u q. then_ends P (as_run owner u (operate precision o x v)) _ (operation_ends owner u o x v p q)
         (λ y w r. rounds_end o n (i +ℤ pos 1) y w (λ j l. subst (λ z. P (whole z)) (sym (next_whole i j)) (k (suc j) (omega arith))) r))
 
-    between_end : (o : Op) (start : Ratio) (a b : Option ℤ) (t : ℕ) → ((x y : ℤ) → a ≡ Some x → b ≡ Some y → (j : ℕ) → j < round_count x y → P (whole (x +ℤ pos j))) → P start → EndsIn P (rounds_between mode owner o start each a b t)
+    between_end : (o : Op) (start : Ratio) (a b : Option ℤ) (t : ℕ) → ((x y : ℤ) → a ≡ Some x → b ≡ Some y → (j : ℕ) → j < round_count x y → P (whole (x +ℤ pos j))) → P start → EndsIn P (rounds_between precision owner o start each a b t)
     between_end o start None b t k p = tt
     between_end o start (Some a) None t k p = tt
     between_end o start (Some a) (Some b) t k p = rounds_end o (round_count a b) a start t (k a b refl refl) p
 
-    replacements_end : (n : ℕ) (x : Ratio) (t : ℕ) → P x → EndsIn P (replacements mode owner each n x t)
+    replacements_end : (n : ℕ) (x : Ratio) (t : ℕ) → P x → EndsIn P (replacements precision owner each n x t)
     replacements_end zero x t p = p
     replacements_end (suc n) x t p =
-        then_ends P (one_round mode owner each x t) _ (round_ends mode x t p) (λ v u q. replacements_end n v u q)
+        then_ends P (one_round precision owner each x t) _ (round_ends precision x t p) (λ v u q. replacements_end n v u q)
 
-    times_end : (x : Ratio) (b : Option ℤ) (t : ℕ) → P x → EndsIn P (replacements_for mode owner each x b t)
+    times_end : (x : Ratio) (b : Option ℤ) (t : ℕ) → P x → EndsIn P (replacements_for precision owner each x b t)
     times_end x None t p = tt
     times_end x (Some (pos n)) t p = replacements_end n x t p
     times_end x (Some (negsuc n)) t p = tt
 
   module _ (owner : ℕ) (answer : Calls) (calls : AnswersKeep P answer) where
     mutual
-      mean_ends : (b : BodyTree) → NumbersHave P b → (ins locs : List Ratio) → All P ins → All P locs → (t : ℕ) → EndsIn P (mean mode owner answer b ins locs t)
+      mean_ends : (b : BodyTree) → NumbersHave P b → (ins locs : List Ratio) → All P ins → All P locs → (t : ℕ) → EndsIn P (mean precision owner answer b ins locs t)
       mean_ends (num v) n ins locs h k t = n
       mean_ends (input i) n ins locs h k t = value_keeps ins i h
       mean_ends (local j) n ins locs h k t = value_keeps locs j k
       mean_ends (neg a) n ins locs h k t =
-          then_ends P (mean mode owner answer a ins locs t) _ (mean_ends a n ins locs h k t) (λ x u p. kept.negative x p)
+          then_ends P (mean precision owner answer a ins locs t) _ (mean_ends a n ins locs h k t) (λ x u p. kept.negative x p)
       mean_ends (op o a b) n ins locs h k t =
           both_end _ _ _ (mean_ends a n.0 ins locs h k t) (λ u. mean_ends b n.1 ins locs h k u) (λ x y u p q. operation_ends owner u o x y p q)
       mean_ends (choice c a b d e) n ins locs h k t =
@@ -122,12 +122,12 @@ module _ (P : Ratio → Type 0) (mode : Mode) (kept : IsKept P mode) where
           both_end _ _ _ (mean_ends a n.0 ins locs h k t) (λ u. mean_ends b n.1 ins locs h k u)
           (λ x y u p q. times_end owner _ (λ v w r. mean_ends e n.2 ins (locs ++ v ∷ []) h (grown locs v k r) w) x (whole_of y) u p)
       mean_ends (call i args) n ins locs h k t =
-          then_ends (All P) (mean_all mode owner answer args ins locs t) _ (all_end args n ins locs h k t) (λ vs u p. calls i vs u p)
+          then_ends (All P) (mean_all precision owner answer args ins locs t) _ (all_end args n ins locs h k t) (λ vs u p. calls i vs u p)
 
-      all_end : (args : BodyTrees) → AllNumbersHave P args → (ins locs : List Ratio) → All P ins → All P locs → (t : ℕ) → IfOk (mean_all mode owner answer args ins locs t) (λ end. All P end.0)
+      all_end : (args : BodyTrees) → AllNumbersHave P args → (ins locs : List Ratio) → All P ins → All P locs → (t : ℕ) → IfOk (mean_all precision owner answer args ins locs t) (λ end. All P end.0)
       all_end none n ins locs h k t = All-nil P
       all_end (more a rest) n ins locs h k t =
-          cons_ends (mean mode owner answer a ins locs t) (λ u. mean_all mode owner answer rest ins locs u) (mean_ends a n.0 ins locs h k t) (λ u. all_end rest n.1 ins locs h k u)
+          cons_ends (mean precision owner answer a ins locs t) (λ u. mean_all precision owner answer rest ins locs u) (mean_ends a n.0 ins locs h k t) (λ u. all_end rest n.1 ins locs h k u)
 
-  pub meaning_keeps : MeaningKeeps P mode
+  pub meaning_keeps : MeaningKeeps P precision
   meaning_keeps owner answer calls b n ins locs h k t = mean_ends owner answer calls b n ins locs h k t

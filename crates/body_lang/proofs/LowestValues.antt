@@ -15,7 +15,7 @@ use Rattle.priz_frac.specs.declared.fault.FracFault.TheVariants as frac
 use Rattle.priz_frac.proofs.Lowest.{low_is_lowest}
 use Rattle.body_lang.specs.declared.op.Op.{Op}
 use Rattle.body_lang.specs.declared.op.Op.TheVariants.{Add, Sub, Mul, Div}
-use Rattle.body_lang.specs.Mode.{Mode, narrowly, exactly}
+use Rattle.body_lang.specs.Precision.{Precision, narrowly, exactly}
 use Rattle.body_lang.specs.Operation.{value_in, operate}
 use Rattle.body_lang.specs.Rounds.{round_count}
 use Rattle.body_lang.proofs.KeptValues.{IsKept}
@@ -43,12 +43,12 @@ quotient_positive n (pos zero) d h e = absurd (cc)
 quotient_positive n (pos (suc k)) d h e = mul-pos {m = suc k} {n = d} (omega arith) h
 quotient_positive n (negsuc k) d h e = turned_positive n (suc k * d) (mul-pos {m = suc k} {n = d} (omega arith) h)
 
-module _ (P : Ratio → Type 0) (mode : Mode) (h : (z : Ratio) → 0 < z.den → IfOk (value_in mode z) P) where
-  divided : (b : Bool) (z : Ratio) → (b ≡ false → 0 < z.den) → IfOk (if b then Err frac.ZeroDivisor else value_in mode z) P
+module _ (P : Ratio → Type 0) (precision : Precision) (h : (z : Ratio) → 0 < z.den → IfOk (value_in precision z) P) where
+  divided : (b : Bool) (z : Ratio) → (b ≡ false → 0 < z.den) → IfOk (if b then Err frac.ZeroDivisor else value_in precision z) P
   divided true z k = tt
   divided false z k = h z (k refl)
 
-  results : (o : Op) (x y : Ratio) → 0 < x.den → 0 < y.den → IfOk (operate mode o x y) P
+  results : (o : Op) (x y : Ratio) → 0 < x.den → 0 < y.den → IfOk (operate precision o x y) P
   results Add x y p q = h (sum_of x y) (mul-pos {m = x.den} {n = y.den} p q)
   results Sub x y p q = h (difference_of x y) (mul-pos {m = x.den} {n = y.den} p q)
   results Mul x y p q = h (product_of x y) (mul-pos {m = x.den} {n = y.den} p q)
@@ -68,16 +68,16 @@ fitting_is_lowest : (b : Bool) (v : Ratio) → IsLowest v → IfOk (if b then Ok
 fitting_is_lowest true v h = h
 fitting_is_lowest false v h = tt
 
-lowest_value : (mode : Mode) (z : Ratio) → 0 < z.den → IfOk (value_in mode z) IsLowest
+lowest_value : (precision : Precision) (z : Ratio) → 0 < z.den → IfOk (value_in precision z) IsLowest
 lowest_value narrowly z h = fitting_is_lowest (fits (low z)) (low z) (low_is_lowest z h)
 lowest_value exactly z h = low_is_lowest z h
 
-pub lowest_is_kept : (mode : Mode) → IsKept IsLowest mode
-lowest_is_kept mode = record {
+pub lowest_is_kept : (precision : Precision) → IsKept IsLowest precision
+lowest_is_kept precision = record {
   nought = whole_is_lowest (pos 0);
   one = whole_is_lowest (pos 1);
   negative = negative_is_lowest;
-  result = λ o x y p q. results IsLowest mode (lowest_value mode) o x y p.positive q.positive;
+  result = λ o x y p q. results IsLowest precision (lowest_value precision) o x y p.positive q.positive;
   between = λ x y a b p q e f j l. whole_is_lowest (a +ℤ pos j);
 }
 

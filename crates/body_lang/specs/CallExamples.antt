@@ -2,7 +2,7 @@
 use Rattle.std.specs.Prelude.{◌≡◌, ℕ, Err}
 use Rattle.body_lang.specs.declared.run_fault.RunFault.TheVariants.{ZeroDivisor, Width}
 use Rattle.body_lang.specs.BodyTree.{BodyTree, local, total, call, none, more}
-use Rattle.body_lang.specs.Mode.{narrowly}
+use Rattle.body_lang.specs.Precision.{narrowly}
 use Rattle.body_lang.specs.Sample.{sample_number, by_zero, too_wide, sample_run, gives, stops}
 use Rattle.body_lang.specs.Stop.{no_row}
 

@@ -3,7 +3,7 @@ use Rattle.std.specs.Prelude.{ℕ, List, All, IfOk, ⊤}
 use Rattle.priz_frac.specs.Ratio.{Ratio}
 use Rattle.body_lang.specs.BodyTree.{BodyTree, BodyTrees, num, input, local, neg, op, choice, total, product, iterate, call, none, more}
 use Rattle.body_lang.specs.Meaning.{Calls, mean}
-use Rattle.body_lang.specs.Mode.{Mode}
+use Rattle.body_lang.specs.Precision.{Precision}
 use Rattle.body_lang.specs.Run.{Ran}
 
 abbrev mutual
@@ -34,8 +34,8 @@ abbrev pub AnswersKeep : (Ratio → Type 0) → Calls → Type 0
 AnswersKeep P answer = (k : ℕ) (arguments : List Ratio) (turns : ℕ) → All P arguments → EndsIn P (answer k arguments turns)
 
 -- where numbers, inputs, locals and answers have the property, so has the value of a body
-abbrev pub MeaningKeeps : (Ratio → Type 0) → Mode → Type 0
-MeaningKeeps P mode =
+abbrev pub MeaningKeeps : (Ratio → Type 0) → Precision → Type 0
+MeaningKeeps P precision =
     (owner : ℕ) (answer : Calls) → AnswersKeep P answer → (body : BodyTree) → NumbersHave P body
     → (inputs locals : List Ratio) → All P inputs → All P locals
-    → (turns : ℕ) → EndsIn P (mean mode owner answer body inputs locals turns)
+    → (turns : ℕ) → EndsIn P (mean precision owner answer body inputs locals turns)

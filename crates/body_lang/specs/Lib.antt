@@ -4,7 +4,7 @@ pub mod Verdicts
 pub mod Checked
 pub mod Reads
 pub mod Stop
-pub mod Mode
+pub mod Precision
 pub mod Run
 pub mod Values
 pub mod Operation

@@ -3,7 +3,7 @@ use Rattle.std.specs.Prelude.{◌≡◌}
 use Rattle.body_lang.specs.declared.op.Op.TheVariants.{Add, Mul}
 use Rattle.body_lang.specs.declared.run_fault.RunFault.TheVariants.{ZeroDivisor, Width, NotWhole, NegativeBound, Turns}
 use Rattle.body_lang.specs.BodyTree.{BodyTree, local, op, total, product, iterate}
-use Rattle.body_lang.specs.Mode.{narrowly, exactly}
+use Rattle.body_lang.specs.Precision.{narrowly, exactly}
 use Rattle.body_lang.specs.Sample.{sample_number, minus, half, by_zero, sample_run, gives, stops}
 
 -- 1 + 2 + 3 + 4

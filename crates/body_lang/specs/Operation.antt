@@ -14,21 +14,21 @@ use Rattle.body_lang.specs.declared.op.Op.{Op}
 use Rattle.body_lang.specs.declared.op.Op.TheVariants.{Add, Sub, Mul, Div}
 use Rattle.body_lang.specs.declared.run_fault.RunFault.{RunFault}
 use Rattle.body_lang.specs.declared.run_fault.RunFault.TheVariants.{ZeroDivisor, Width}
-use Rattle.body_lang.specs.Mode.{Mode, narrowly, exactly}
+use Rattle.body_lang.specs.Precision.{Precision, narrowly, exactly}
 use Rattle.body_lang.specs.Run.{Ran}
 use Rattle.body_lang.specs.Stop.{fault}
 
 -- x in lowest terms, which equal fractions share; narrowly, where they fit
-abbrev pub value_in : Mode → Ratio → Result Ratio FracFault
+abbrev pub value_in : Precision → Ratio → Result Ratio FracFault
 value_in narrowly x = narrow x
 value_in exactly x = Ok (low x)
 
 -- the operator's value
-abbrev pub operate : Mode → Op → Ratio → Ratio → Result Ratio FracFault
-operate mode Add x y = value_in mode (sum_of x y)
-operate mode Sub x y = value_in mode (difference_of x y)
-operate mode Mul x y = value_in mode (product_of x y)
-operate mode Div x y = if int_eq y.num (pos 0) then Err frac.ZeroDivisor else value_in mode (quotient_of x y)
+abbrev pub operate : Precision → Op → Ratio → Ratio → Result Ratio FracFault
+operate precision Add x y = value_in precision (sum_of x y)
+operate precision Sub x y = value_in precision (difference_of x y)
+operate precision Mul x y = value_in precision (product_of x y)
+operate precision Div x y = if int_eq y.num (pos 0) then Err frac.ZeroDivisor else value_in precision (quotient_of x y)
 
 -- what a fault of arithmetic is in a run
 abbrev pub run_fault : FracFault → RunFault

@@ -4,7 +4,7 @@ use Rattle.body_lang.specs.declared.cmp.Cmp.TheVariants.{Less, AtMost, Same}
 use Rattle.body_lang.specs.declared.op.Op.TheVariants.{Add, Sub, Mul, Div}
 use Rattle.body_lang.specs.declared.run_fault.RunFault.TheVariants.{ZeroDivisor, Width}
 use Rattle.body_lang.specs.BodyTree.{input, neg, op, choice}
-use Rattle.body_lang.specs.Mode.{narrowly, exactly}
+use Rattle.body_lang.specs.Precision.{narrowly, exactly}
 use Rattle.body_lang.specs.Sample.{sample_number, half, by_zero, too_wide, sample_run, gives, stops}
 use Rattle.priz_frac.specs.Whole.{whole}
 

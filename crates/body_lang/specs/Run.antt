@@ -2,7 +2,7 @@
 use Rattle.std.specs.Prelude.{ℕ, zero, suc, Result, Ok, Err}
 use Rattle.priz_frac.specs.Ratio.{Ratio}
 use Rattle.body_lang.specs.declared.run_fault.RunFault.TheVariants.{Turns}
-use Rattle.body_lang.specs.Mode.{Mode, narrowly, exactly}
+use Rattle.body_lang.specs.Precision.{Precision, narrowly, exactly}
 use Rattle.body_lang.specs.Stop.{Stop, fault}
 
 -- a value and the turns left, or the first stop
@@ -19,7 +19,7 @@ abbrev pub then_both : Ran → (ℕ → Ran) → (Ratio → Ratio → ℕ → Ra
 then_both first second go = then_with first (λ x left. then_with (second left) (λ y turns. go x y turns))
 
 -- takes a turn for the statement, and goes on
-abbrev pub turn_then : {B : Type 0} → Mode → ℕ → ℕ → (ℕ → Result (B × ℕ) Stop) → Result (B × ℕ) Stop
+abbrev pub turn_then : {B : Type 0} → Precision → ℕ → ℕ → (ℕ → Result (B × ℕ) Stop) → Result (B × ℕ) Stop
 turn_then narrowly owner zero go = Err (fault owner Turns)
 turn_then narrowly owner (suc left) go = go left
 turn_then exactly owner turns go = go turns

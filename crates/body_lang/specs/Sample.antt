@@ -5,7 +5,7 @@ use Rattle.body_lang.specs.declared.op.Op.TheVariants.{Add, Div}
 use Rattle.body_lang.specs.declared.run_fault.RunFault.{RunFault}
 use Rattle.body_lang.specs.BodyTree.{BodyTree, num, op}
 use Rattle.body_lang.specs.Meaning.{mean, Calls}
-use Rattle.body_lang.specs.Mode.{Mode}
+use Rattle.body_lang.specs.Precision.{Precision}
 use Rattle.body_lang.specs.Run.{Ran}
 use Rattle.body_lang.specs.Stop.{fault, no_row}
 use Rattle.priz_frac.specs.Whole.{whole}
@@ -37,8 +37,8 @@ sample_calls (suc zero) arguments turns = Ok (whole (pos turns), turns)
 sample_calls _ _ turns = Err no_row
 
 -- a run of the body with so many turns, where the statement's inputs are 4 and 5
-abbrev pub sample_run : Mode → BodyTree → ℕ → Ran
-sample_run mode body turns = mean mode 7 sample_calls body (whole (pos 4) ∷ whole (pos 5) ∷ []) [] turns
+abbrev pub sample_run : Precision → BodyTree → ℕ → Ran
+sample_run precision body turns = mean precision 7 sample_calls body (whole (pos 4) ∷ whole (pos 5) ∷ []) [] turns
 
 -- the body ends in the number n, with so many turns left
 abbrev pub gives : ℕ → ℕ → Ran

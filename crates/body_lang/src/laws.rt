@@ -7,7 +7,7 @@ ghost use Rattle.body_lang.specs.BodyTree.{BodyTree};
 ghost use Rattle.body_lang.specs.Checked.{checked};
 ghost use Rattle.body_lang.specs.Reads.{IsClosed};
 ghost use Rattle.body_lang.specs.Meaning.{Calls, mean};
-ghost use Rattle.body_lang.specs.Mode.{Mode, narrowly, exactly};
+ghost use Rattle.body_lang.specs.Precision.{Precision, narrowly, exactly};
 ghost use Rattle.body_lang.specs.Keeping.{MeaningKeeps};
 ghost use Rattle.body_lang.specs.Follows.{RunFollows, RunFollowsOnRows, CallsFollow, CallsFollowOnRows};
 ghost use Rattle.body_lang.specs.OperationExamples.{InputsAreRead, ResultsAreInLowestTerms, DivisionByZeroIsAFault, WidthIsAFault, LeftIsTakenFirst, OneBranchIsTaken, SidesAreTakenFirst};
@@ -53,7 +53,7 @@ pub fn exact_meaning_ends_in_the_narrow_value()
 
 /// Values in lowest terms stay so, in both meanings; those that fit as well, in the narrow one.
 pub fn values_are_in_lowest_terms()
-    ensures lowest { (mode : Mode) → MeaningKeeps IsLowest mode }
+    ensures lowest { (precision : Precision) → MeaningKeeps IsLowest precision }
     ensures narrow { MeaningKeeps IsNarrow narrowly }
 {}
 

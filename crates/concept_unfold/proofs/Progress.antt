@@ -129,8 +129,8 @@ module _ (items : List Item) (i : ℕ) (x : Item) (lt : i < length items) (is : 
       let at : Item → Type 0 = λ y. IsBuiltItem (item_tree y) in
       subst at (sym is) (All-get_or at items i x lt (all_of_map IsBuiltItem item_tree items h))
 
-  pub item_size : sum_by item_size (map item_tree items) ≤ max_size → item_size (item_tree x) ≤ max_size
-  item_size h =
+  pub item_fits : sum_by item_size (map item_tree items) ≤ max_size → item_size (item_tree x) ≤ max_size
+  item_fits h =
       let f : Item → ℕ = λ y. item_size (item_tree y) in
       omega (arith, h, get_or-le-sum_by f items i x lt, ap f is, fold-map (λ a y. a + item_size y) item_tree 0 items)
 

@@ -4,3 +4,4 @@ pub mod Loops
 pub mod Words
 pub mod Within
 pub mod More
+pub mod Pieces

@@ -31,4 +31,4 @@ pub use sure_sink::SureSink;
 pub use sure_source::SureSource;
 pub use var::Var;
 pub use var_set::VarSet;
-pub use writing::write_all;
+pub use writing::{write_all, write_pieces};

@@ -3,7 +3,7 @@ ghost use Rattle.std.specs.Prelude.{◌≤◌};
 
 use crate::{
     MAX_INPUT, MemSink, MemSource, Pull, Push, ReadStop, Sink, Source, StdSink, StdSource,
-    SureSink, SureSource, read_all, write_all,
+    SureSink, SureSource, read_all, write_all, write_pieces,
 };
 use std::alloc::Global;
 use std::io;
@@ -67,6 +67,9 @@ fn reads_and_writes_whole(rt: HostRuntime) -> Result<(), Fail> {
     let mut sink = MemSink::new(alloc, 5, 3, &[2]).expect(&rt, "five bytes");
     assert!(rt; write_all(&mut sink, b"abcde"));
     assert!(rt; !write_all(&mut sink, b"f"));
+    assert_eq!(rt; sink.written(), b"abcde".as_slice());
+    let mut sink = MemSink::new(alloc, 5, 2, &[]).expect(&rt, "five bytes");
+    assert!(rt; write_pieces(&mut sink, &[b"abc".as_slice(), b"", b"de"]));
     assert_eq!(rt; sink.written(), b"abcde".as_slice());
     let mut sink = SureSink::new();
     assert!(rt; write_all(&mut sink, b"abcde"));

@@ -1,12 +1,4 @@
 pub mod Numerals
-pub mod Joined
-pub mod Rows
-pub mod Unfolds
 pub mod Answered
-pub mod Steps
-pub mod OneCause
-pub mod Ends
-pub mod UnbuiltTokens
-pub mod Watched
-mod BodyForms
-pub mod BuiltForms
+pub mod Modes
+pub mod Settling

@@ -1,10 +1,8 @@
-pub mod Words
-pub mod Unbuilt
-pub mod Accepted
-pub mod Refused
 pub mod Reports
+pub mod Modes
+pub mod Words
 pub mod Wordings
 pub mod Messages
-pub mod Outcomes
-pub mod Faults
-pub mod Steps
+pub mod Ends
+pub mod Statuses
+pub mod steps

@@ -1,17 +1,11 @@
 -- The line that says why there is no report.
 use Rattle.std.specs.Prelude.{ℕ, List, [], ◌++◌, codes, decimal}
-use Rattle.std.specs.List.{flat_map}
-use denote.Bor.{Bor}
 use Rattle.priz_base.specs.declared.place.Place.{Place}
 use Rattle.priz_cli.specs.declared.outcome.Outcome.{Outcome}
 use Rattle.priz_cli.specs.declared.outcome.Outcome.TheVariants as outcome
 use Rattle.priz_cli.specs.declared.refusal.Refusal.{Refusal}
 use Rattle.priz_cli.specs.declared.refusal.Refusal.TheVariants as refusal
 use Rattle.priz_cli.specs.Wordings.{lex_text, rule_text}
-
--- pieces one after another
-abbrev pub joined : List (Bor (List ℕ)) → List ℕ
-joined pieces = flat_map (λ (p : Bor (List ℕ)). p.now) pieces
 
 -- what is wrong at a place
 abbrev pub placed_text : Place → List ℕ → List ℕ

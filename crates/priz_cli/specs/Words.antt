@@ -1,12 +1,12 @@
 -- What the words of the command line ask for.
 use Rattle.std.specs.Prelude.{ℕ, Bool, true, false, List, [], ◌∷◌, ◌&&◌, if◌then◌else◌, nat_le, codes, Option, Some, None}
-use Rattle.std.specs.Option.{option_map}
-use Rattle.std.specs.Str.{bytes_eq}
 use Rattle.std.specs.Str.Parse.{digits_value}
 use Rattle.std.specs.Char.{is_ascii_digit}
 use Rattle.std.specs.List.{list_all}
 use Rattle.clap.specs.Words.{App, Rule, Text, Kinds, new_app, new_rule, with_rule, first_of, matches_of, fault_of}
-use Rattle.answer_core.specs.declared.effort.Effort.{Effort}
+use Rattle.priz_cli.specs.declared.order.Order.{Order}
+use Rattle.priz_cli.specs.declared.order.Mode.{Mode}
+use Rattle.priz_cli.specs.Modes.{mode_of}
 
 -- MODE
 abbrev pub mode_rule : Rule
@@ -43,10 +43,16 @@ abbrev pub turns_in : Option Text → Option ℕ
 turns_in None = Some usual_turns
 turns_in (Some text) = number_to most_turns text
 
--- what is asked for where MODE and --turns have these texts; `solve` is the one mode
-abbrev pub effort_in : Option Text → Option Text → Option Effort
-effort_in None turns = None
-effort_in (Some mode) turns = if bytes_eq mode (codes "solve") then option_map (λ n. record { turns = n }) (turns_in turns) else None
+-- a mode and its turns, where both are there
+abbrev pub order_with : Option Mode → Option ℕ → Option Order
+order_with (Some m) (Some turns) = Some (record { mode = m; effort = record { turns = turns } })
+order_with (Some m) None = None
+order_with None turns = None
+
+-- what is asked for where MODE and --turns have these texts
+abbrev pub order_in : Option Text → Option Text → Option Order
+order_in None turns = None
+order_in (Some word) turns = order_with (mode_of word) (turns_in turns)
 
 -- whether the command takes words that have these faults
 abbrev pub is_taken : Kinds → Bool
@@ -54,7 +60,7 @@ is_taken [] = true
 is_taken (k ∷ ks) = false
 
 -- what the words ask for, the first of which is the program's name; or none, where it is nothing that the program does
-abbrev pub effort_of : List Text → Option Effort
-effort_of words =
-    if is_taken (fault_of command words) then effort_in (first_of (codes "mode") (matches_of command words)) (first_of (codes "turns") (matches_of command words))
+abbrev pub asked_order : List Text → Option Order
+asked_order words =
+    if is_taken (fault_of command words) then order_in (first_of (codes "mode") (matches_of command words)) (first_of (codes "turns") (matches_of command words))
     else None

@@ -1,16 +1,15 @@
 ghost use Rattle.std.specs.Prelude.{◌≡◌};
 ghost use Rattle.priz_cli.specs.declared.fault.Fault.TheVariants as fault;
-ghost use Rattle.priz_cli.specs.Faults.{parse_fault, unfold_fault};
+ghost use Rattle.priz_cli.specs.steps.Faults.{file_fault};
 
 use crate::refusal::Refusal;
-use concept_unfold::UnfoldFault;
+use file_accept::FileFault;
 use priz_base::NoMem;
-use utopist_parser::ParseFault;
 
-/// Why an input has no answers.
+/// Why an input has no text that is to be written.
 #[derive(Clone, Copy, Debug, PartialEq, Eq)]
 pub(crate) enum Fault {
-    /// It is no file, or a rule fails for it.
+    /// It is none that the mode takes.
     Refused(Refusal),
     /// Want of memory.
     NoMem,
@@ -24,26 +23,16 @@ impl From<NoMem> for Fault {
     }
 }
 
-impl From<ParseFault> for Fault {
-    ghost from_gives = { λ f e. e ≡ parse_fault f };
+impl From<FileFault> for Fault {
+    ghost from_gives = { λ f e. e ≡ file_fault f };
 
-    fn from(fault: ParseFault) -> Fault {
+    fn from(fault: FileFault) -> Fault {
         match fault {
-            ParseFault::Lex(fault) => Fault::Refused(Refusal::Lex(fault)),
-            ParseFault::Expected(place) => Fault::Refused(Refusal::Expected(place)),
-            ParseFault::TooDeep(place) => Fault::Refused(Refusal::TooDeep(place)),
-            ParseFault::NoMem => Fault::NoMem,
-        }
-    }
-}
-
-impl From<UnfoldFault> for Fault {
-    ghost from_gives = { λ f e. e ≡ unfold_fault f };
-
-    fn from(fault: UnfoldFault) -> Fault {
-        match fault {
-            UnfoldFault::Model(fault) => Fault::Refused(Refusal::Model(fault)),
-            UnfoldFault::NoMem => Fault::NoMem,
+            FileFault::Lex(fault) => Fault::Refused(Refusal::Lex(fault)),
+            FileFault::Expected(place) => Fault::Refused(Refusal::Expected(place)),
+            FileFault::TooDeep(place) => Fault::Refused(Refusal::TooDeep(place)),
+            FileFault::Model(fault) => Fault::Refused(Refusal::Model(fault)),
+            FileFault::NoMem => Fault::NoMem,
         }
     }
 }

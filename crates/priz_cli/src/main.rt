@@ -2,18 +2,17 @@
 #![tactic(auto)]
 
 mod fault;
-mod input;
+mod make;
 mod message;
+mod order;
 mod outcome;
-mod problems;
 mod refusal;
-mod solution;
+mod solve;
 #[cfg(test)]
 mod tests;
 #[cfg(test)]
 mod tests_numbers;
 mod top;
-mod unbuilt;
 mod wording;
 mod words;
 

@@ -1,21 +1,17 @@
-ghost use Rattle.std.specs.Prelude.{◌≡◌, ◌≤◌, false, IsTrue};
-ghost use Rattle.std.specs.Io.KnownBytes.{Appends};
-ghost use Rattle.priz_base.specs.Faults.{Rose};
-ghost use Rattle.priz_base.specs.Writing.{WritesPart};
-ghost use Rattle.priz_cli.specs.Messages.{message_of, refusal_text, utf8_text, placed_text, joined};
+ghost use Rattle.priz_base.specs.Writing.{Writes};
+ghost use Rattle.priz_cli.specs.Messages.{message_of, refusal_text, utf8_text, placed_text};
 
 use crate::outcome::Outcome;
 use crate::refusal::Refusal;
 use crate::wording::{lex_text, rule_text};
 use itoa::Buffer;
-use priz_base::{Place, Sink, write_all};
+use priz_base::{Place, Sink, write_all, write_pieces};
 
-/// Writes the line that says why there is no report; for a report none is written.
+/// Writes the line that says why there is no report; for a report none is written. False means that the sink failed on
+/// the way.
 pub fn message<K: Sink>(outcome: &Outcome, sink: &mut K) -> bool
-    ensures whole { IsTrue result → Appends (K.written sink.old) (K.written sink.new) (message_of outcome.now) }
-    ensures part { result ≡ false → WritesPart (K.written sink.old) (K.written sink.new) (message_of outcome.now) }
-    ensures later { K.faults sink.old ≤ K.faults sink.new }
-    ensures fault { result ≡ false → Rose (K.faults sink.old) (K.faults sink.new) }
+    ensures { Writes (message_of outcome.now) result
+        (K.written sink.old) (K.written sink.new) (K.faults sink.old) (K.faults sink.new) }
 {
     match outcome {
         Outcome::Solved(_) => write_all(sink, b""),
@@ -32,10 +28,8 @@ const USAGE: &[u8] =
     b"priz: usage: priz MODE [COUNT] [--budget N] [--turns N] [--explain] [--code]\n";
 
 fn write_refusal<K: Sink>(refusal: Refusal, sink: &mut K) -> bool
-    ensures whole { IsTrue result → Appends (K.written sink.old) (K.written sink.new) (refusal_text refusal) }
-    ensures part { result ≡ false → WritesPart (K.written sink.old) (K.written sink.new) (refusal_text refusal) }
-    ensures later { K.faults sink.old ≤ K.faults sink.new }
-    ensures fault { result ≡ false → Rose (K.faults sink.old) (K.faults sink.new) }
+    ensures { Writes (refusal_text refusal) result
+        (K.written sink.old) (K.written sink.new) (K.faults sink.old) (K.faults sink.new) }
 {
     match refusal {
         Refusal::NotUtf8(at) => write_not_utf8(at, sink),
@@ -47,10 +41,8 @@ fn write_refusal<K: Sink>(refusal: Refusal, sink: &mut K) -> bool
 }
 
 fn write_not_utf8<K: Sink>(at: u32, sink: &mut K) -> bool
-    ensures whole { IsTrue result → Appends (K.written sink.old) (K.written sink.new) (utf8_text at) }
-    ensures part { result ≡ false → WritesPart (K.written sink.old) (K.written sink.new) (utf8_text at) }
-    ensures later { K.faults sink.old ≤ K.faults sink.new }
-    ensures fault { result ≡ false → Rose (K.faults sink.old) (K.faults sink.new) }
+    ensures { Writes (utf8_text at) result
+        (K.written sink.old) (K.written sink.new) (K.faults sink.old) (K.faults sink.new) }
 {
     let mut byte = Buffer::new();
     let pieces = [
@@ -58,15 +50,13 @@ fn write_not_utf8<K: Sink>(at: u32, sink: &mut K) -> bool
         byte.format(at).as_bytes(),
         b": not UTF-8\n".as_slice(),
     ];
-    write_pieces(&pieces, sink)
+    write_pieces(sink, &pieces)
 }
 
 // What is wrong at a place.
 fn write_placed<K: Sink>(place: Place, what: &[u8], sink: &mut K) -> bool
-    ensures whole { IsTrue result → Appends (K.written sink.old) (K.written sink.new) (placed_text place what.now) }
-    ensures part { result ≡ false → WritesPart (K.written sink.old) (K.written sink.new) (placed_text place what.now) }
-    ensures later { K.faults sink.old ≤ K.faults sink.new }
-    ensures fault { result ≡ false → Rose (K.faults sink.old) (K.faults sink.new) }
+    ensures { Writes (placed_text place what.now) result
+        (K.written sink.old) (K.written sink.new) (K.faults sink.old) (K.faults sink.new) }
 {
     let mut line = Buffer::new();
     let mut column = Buffer::new();
@@ -79,19 +69,5 @@ fn write_placed<K: Sink>(place: Place, what: &[u8], sink: &mut K) -> bool
         what,
         b"\n".as_slice(),
     ];
-    write_pieces(&pieces, sink)
-}
-
-fn write_pieces<K: Sink>(pieces: &[&[u8]], sink: &mut K) -> bool
-    ensures whole { IsTrue result → Appends (K.written sink.old) (K.written sink.new) (joined pieces.now) }
-    ensures part { result ≡ false → WritesPart (K.written sink.old) (K.written sink.new) (joined pieces.now) }
-    ensures later { K.faults sink.old ≤ K.faults sink.new }
-    ensures fault { result ≡ false → Rose (K.faults sink.old) (K.faults sink.new) }
-{
-    for piece in pieces {
-        if !write_all(sink, piece) {
-            return false;
-        }
-    }
-    true
+    write_pieces(sink, &pieces)
 }

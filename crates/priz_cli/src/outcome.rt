@@ -1,5 +1,5 @@
 ghost use Rattle.std.specs.Prelude.{◌≡◌};
-ghost use Rattle.priz_cli.specs.Outcomes.{status_of};
+ghost use Rattle.priz_cli.specs.Statuses.{status_of};
 
 use crate::refusal::Refusal;
 use answer_core::Answer;

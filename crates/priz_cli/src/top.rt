@@ -1,21 +1,16 @@
-ghost use Rattle.std.specs.Prelude.{◌≡◌, ◌≢◌, ◌<◌, ◌≤◌, length, map, string_bytes, Some, None, IsSome, IfSome};
-ghost use Rattle.priz_base.specs.Faults.{Rose};
-ghost use Rattle.priz_base.specs.Reading.{max_input};
-ghost use Rattle.utopist_syntax.specs.FileTree.{FileTree};
-ghost use Rattle.priz_cli.specs.Words.{effort_of};
-ghost use Rattle.priz_cli.specs.declared.refusal.Refusal.{Refusal};
-ghost use Rattle.priz_cli.specs.Accepted.{Accepts};
-ghost use Rattle.priz_cli.specs.Refused.{Refuses};
-ghost use Rattle.priz_cli.specs.Outcomes.{Leaves, RunLeaves, EndsAs, IsUnwritten, IsAnswered};
-ghost use Rattle.priz_cli.specs.Steps.{AcceptedOf};
+ghost use Rattle.std.specs.Prelude.{◌≡◌, ◌≤◌, map, string_bytes, Some};
+ghost use Rattle.priz_cli.specs.Words.{asked_order};
+ghost use Rattle.priz_cli.specs.Modes.{reads};
+ghost use Rattle.priz_cli.specs.Messages.{message_of};
+ghost use Rattle.priz_cli.specs.Ends.{Ends, EndsAndSays, Settles, source_state, streams};
+ghost use Rattle.priz_cli.specs.steps.InputOf.{InputOf};
 
 use crate::fault::Fault;
-use crate::input::file_of;
+use crate::make::{Made, make};
 use crate::message::message;
+use crate::order::{Mode, Order};
 use crate::outcome::Outcome;
-use crate::solution::{Solution, solution_of};
-use crate::words::effort_of;
-use answer_core::Effort;
+use crate::words::asked_order;
 use priz_base::{NoMem, ReadStop, Sink, Source, read_all, write_all};
 use std::alloc::Global;
 
@@ -26,16 +21,10 @@ pub fn run<S: Source, K: Sink>(
     source: &mut S,
     sink: &mut K,
 ) -> Outcome
-    ensures outcome { RunLeaves (effort_of (map string_bytes words.now)) result (S.left source.old) (S.left source.new) (K.written sink.old) (K.written sink.new) (K.faults sink.old) (K.faults sink.new) }
-    ensures usage { effort_of (map string_bytes words.now) ≡ None → EndsAs Outcome.Usage result }
-    ensures untouched { result ≡ Outcome.Usage → S.faults source.new ≡ S.faults source.old }
-    ensures read { result ≡ Outcome.ReadFault → Rose (S.faults source.old) (S.faults source.new) }
-    ensures write { result ≡ Outcome.WriteFault → Rose (K.faults sink.old) (K.faults sink.new) }
-    ensures later_source { S.faults source.old ≤ S.faults source.new }
-    ensures later_sink { K.faults sink.old ≤ K.faults sink.new }
-    ensures refused { IsSome (effort_of (map string_bytes words.now)) → result ≢ Outcome.ReadFault → IfSome (S.left source.old) (λ bytes. (r : Refusal) → length bytes ≤ max_input → Refuses bytes r → EndsAs (Outcome.Refused r) result) }
-    ensures long { IsSome (effort_of (map string_bytes words.now)) → result ≢ Outcome.ReadFault → IfSome (S.left source.old) (λ bytes. max_input < length bytes → EndsAs Outcome.InputTooLong result) }
-    ensures complete { IsSome (effort_of (map string_bytes words.now)) → ¬ Rose (S.faults source.old) (S.faults source.new) → ¬ Rose (K.faults sink.old) (K.faults sink.new) → IfSome (S.left source.old) (λ bytes. (f : FileTree) → Accepts bytes f → IsAnswered result) }
+    ensures ends { EndsAndSays (asked_order (map string_bytes words.now)) result (message_of result)
+        (streams (S.left source.old) (S.faults source.old) (K.written sink.old) (K.faults sink.old))
+        (streams (S.left source.new) (S.faults source.new) (K.written sink.new) (K.faults sink.new)) }
+    ensures settled { Settles (asked_order (map string_bytes words.now)) result (S.left source.old) }
 {
     let outcome = priz(alloc, words, source, sink);
     message(&outcome, sink);
@@ -49,61 +38,49 @@ pub fn priz<S: Source, K: Sink>(
     source: &mut S,
     sink: &mut K,
 ) -> Outcome
-    ensures outcome { Leaves (effort_of (map string_bytes words.now)) result (S.left source.old) (S.left source.new) (K.written sink.old) (K.written sink.new) }
-    ensures usage { effort_of (map string_bytes words.now) ≡ None → EndsAs Outcome.Usage result }
-    ensures untouched { result ≡ Outcome.Usage → S.faults source.new ≡ S.faults source.old }
-    ensures unwritten { IsUnwritten result → K.faults sink.new ≡ K.faults sink.old }
-    ensures read { result ≡ Outcome.ReadFault → Rose (S.faults source.old) (S.faults source.new) }
-    ensures write { result ≡ Outcome.WriteFault → Rose (K.faults sink.old) (K.faults sink.new) }
-    ensures later_source { S.faults source.old ≤ S.faults source.new }
-    ensures later_sink { K.faults sink.old ≤ K.faults sink.new }
-    ensures refused { IsSome (effort_of (map string_bytes words.now)) → result ≢ Outcome.ReadFault → IfSome (S.left source.old) (λ bytes. (r : Refusal) → length bytes ≤ max_input → Refuses bytes r → EndsAs (Outcome.Refused r) result) }
-    ensures long { IsSome (effort_of (map string_bytes words.now)) → result ≢ Outcome.ReadFault → IfSome (S.left source.old) (λ bytes. max_input < length bytes → EndsAs Outcome.InputTooLong result) }
-    ensures complete { IsSome (effort_of (map string_bytes words.now)) → ¬ Rose (S.faults source.old) (S.faults source.new) → ¬ Rose (K.faults sink.old) (K.faults sink.new) → IfSome (S.left source.old) (λ bytes. (f : FileTree) → Accepts bytes f → IsAnswered result) }
+    ensures ends { Ends (asked_order (map string_bytes words.now)) result
+        (streams (S.left source.old) (S.faults source.old) (K.written sink.old) (K.faults sink.old))
+        (streams (S.left source.new) (S.faults source.new) (K.written sink.new) (K.faults sink.new)) }
+    ensures settled { Settles (asked_order (map string_bytes words.now)) result (S.left source.old) }
 {
-    match effort_of(alloc, words) {
-        Ok(Some(effort)) => solve(alloc, &effort, source, sink),
+    match asked_order(alloc, words) {
+        Ok(Some(order)) => work(alloc, &order, source, sink),
         Ok(None) => Outcome::Usage,
         Err(NoMem) => Outcome::NoMem,
     }
 }
 
-fn solve<S: Source, K: Sink>(
-    alloc: Global,
-    effort: &Effort,
-    source: &mut S,
-    sink: &mut K,
-) -> Outcome
-    ensures outcome { Leaves (Some effort.now) result (S.left source.old) (S.left source.new) (K.written sink.old) (K.written sink.new) }
-    ensures mode { result ≢ Outcome.Usage }
-    ensures read { result ≡ Outcome.ReadFault → Rose (S.faults source.old) (S.faults source.new) }
-    ensures write { result ≡ Outcome.WriteFault → Rose (K.faults sink.old) (K.faults sink.new) }
-    ensures unwritten { IsUnwritten result → K.faults sink.new ≡ K.faults sink.old }
-    ensures later_source { S.faults source.old ≤ S.faults source.new }
-    ensures later_sink { K.faults sink.old ≤ K.faults sink.new }
+// Reads what the mode reads, makes its text, and writes it.
+fn work<S: Source, K: Sink>(alloc: Global, order: &Order, source: &mut S, sink: &mut K) -> Outcome
+    ensures ends { Ends (Some order.now) result
+        (streams (S.left source.old) (S.faults source.old) (K.written sink.old) (K.faults sink.old))
+        (streams (S.left source.new) (S.faults source.new) (K.written sink.new) (K.faults sink.new)) }
 {
-    let bytes = match read_all(alloc, source) {
+    let bytes = match read_for(alloc, order.mode, source) {
         Ok(bytes) => bytes,
         Err(ReadStop::ReadFault) => return Outcome::ReadFault,
         Err(ReadStop::TooLong) => return Outcome::InputTooLong,
         Err(ReadStop::NoMem) => return Outcome::NoMem,
     };
-    let Solution { answers, report } = match solution_of_bytes(alloc, &bytes, effort) {
-        Ok(solution) => solution,
+    let Made { outcome, text } = match make(alloc, order, &bytes) {
+        Ok(made) => made,
         Err(Fault::Refused(refusal)) => return Outcome::Refused(refusal),
         Err(Fault::NoMem) => return Outcome::NoMem,
     };
-    if write_all(sink, &report) {
-        Outcome::Solved(answers)
+    if write_all(sink, &text) {
+        outcome
     } else {
         Outcome::WriteFault
     }
 }
 
-fn solution_of_bytes(alloc: Global, bytes: &[u8], effort: &Effort) -> Result<Solution, Fault>
-    requires few { length bytes.now ≤ max_input }
-    ensures { AcceptedOf effort.now.turns bytes.now result }
+// The bytes that a mode reads.
+fn read_for<S: Source>(alloc: Global, mode: Mode, source: &mut S) -> Result<Vec<u8>, ReadStop>
+    ensures later { S.faults source.old ≤ S.faults source.new }
+    ensures input { InputOf (reads mode) (source_state (S.left source.old) (S.faults source.old))
+        (source_state (S.left source.new) (S.faults source.new)) result }
 {
-    let file = file_of(alloc, bytes)?;
-    solution_of(alloc, &file, effort)
+    match mode {
+        Mode::Solve => read_all(alloc, source),
+    }
 }

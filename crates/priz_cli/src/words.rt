@@ -1,8 +1,10 @@
 //! The words of the command line.
 ghost use Rattle.std.specs.Prelude.{◌≡◌, ◌==◌, IfOk, map, string_bytes, option_map, slice_index};
 ghost use Rattle.clap.specs.Words.{app_of};
-ghost use Rattle.priz_cli.specs.Words.{command, number_to, turns_in, effort_in, effort_of};
+ghost use Rattle.priz_cli.specs.Modes.{mode_of};
+ghost use Rattle.priz_cli.specs.Words.{command, number_to, turns_in, order_in, asked_order};
 
+use crate::order::{Mode, Order};
 use answer_core::Effort;
 use clap::error::ErrorKind;
 use clap::{Arg, Command};
@@ -10,12 +12,12 @@ use priz_base::NoMem;
 use std::alloc::{AllocError, Global};
 
 /// What the words ask for; none, where it is nothing that the program does. The first word is the program's name.
-pub(crate) fn effort_of(alloc: Global, words: &[String]) -> Result<Option<Effort>, NoMem>
-    ensures { IfOk result (λ e. e ≡ effort_of (map string_bytes words.now)) }
+pub(crate) fn asked_order(alloc: Global, words: &[String]) -> Result<Option<Order>, NoMem>
+    ensures { IfOk result (λ order. order ≡ asked_order (map string_bytes words.now)) }
 {
     let command = command(alloc)?;
     match command.try_get_matches_from(words) {
-        Ok(matches) => Ok(effort_in(matches.get_str("mode"), matches.get_str("turns"))),
+        Ok(matches) => Ok(order_in(matches.get_str("mode"), matches.get_str("turns"))),
         Err(error) => match error.kind() {
             ErrorKind::OutOfMemory => Err(NoMem),
             _ => Ok(None),
@@ -35,14 +37,21 @@ fn command<'a>(alloc: Global) -> Result<Command<'a>, AllocError>
         .arg(turns)
 }
 
-fn effort_in(mode: Option<&str>, turns: Option<&str>) -> Option<Effort>
-    ensures { result ≡ effort_in (option_map (λ t. t.now) mode.entry) (option_map (λ t. t.now) turns.entry) }
+fn order_in(mode: Option<&str>, turns: Option<&str>) -> Option<Order>
+    ensures { result
+        ≡ order_in (option_map (λ t. t.now) mode.entry) (option_map (λ t. t.now) turns.entry) }
 {
-    match mode {
-        Some("solve") => {
-            let turns = turns_in(turns)?;
-            Some(Effort { turns })
-        }
+    let mode = mode_of(mode?)?;
+    let turns = turns_in(turns)?;
+    let effort = Effort { turns };
+    Some(Order { mode, effort })
+}
+
+fn mode_of(word: &str) -> Option<Mode>
+    ensures { result ≡ mode_of word.now }
+{
+    match word {
+        "solve" => Some(Mode::Solve),
         _ => None,
     }
 }

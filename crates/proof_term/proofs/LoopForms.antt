@@ -7,7 +7,7 @@ use Rattle.body_lang.specs.declared.body.Body.{Body}
 use Rattle.body_lang.specs.declared.body.Body.TheViews as views
 use Rattle.body_lang.specs.BodyTree.{BodyTree}
 use Rattle.body_lang.specs.View.{body_tree}
-use Rattle.body_lang.specs.Mode.{narrowly}
+use Rattle.body_lang.specs.Precision.{narrowly}
 use Rattle.body_lang.specs.Meaning.{Calls, mean}
 use Rattle.body_lang.specs.Rounds.{rounds_between, replacements_for}
 use Rattle.body_lang.specs.Run.{Ran, then_with}

@@ -4,7 +4,7 @@ use Rattle.std.proofs.lemmas.Int.{ints}
 use Rattle.priz_frac.specs.Ratio.{Ratio}
 use Rattle.body_lang.specs.declared.op.Op.{Op}
 use Rattle.body_lang.specs.declared.run_fault.RunFault.{RunFault}
-use Rattle.body_lang.specs.Mode.{narrowly}
+use Rattle.body_lang.specs.Precision.{narrowly}
 use Rattle.body_lang.specs.Operation.{operate, as_run}
 use Rattle.body_lang.specs.Rounds.{one_round, rounds, replacements}
 use Rattle.body_lang.specs.Run.{Ran, then_with}

@@ -3,7 +3,7 @@ use Rattle.std.specs.Prelude.{◌≡◌, ℕ, List, [], ◌∷◌, ◌++◌, Res
 use Rattle.priz_frac.specs.Ratio.{Ratio}
 use Rattle.body_lang.specs.declared.run_fault.RunFault.{RunFault}
 use Rattle.body_lang.specs.BodyTree.{BodyTree}
-use Rattle.body_lang.specs.Mode.{narrowly}
+use Rattle.body_lang.specs.Precision.{narrowly}
 use Rattle.body_lang.specs.Run.{Ran}
 use Rattle.body_lang.specs.Stop.{Stop, fault}
 use Rattle.body_lang.specs.Meaning.{Calls, mean}

@@ -4,7 +4,7 @@ use Rattle.std.specs.Option.{option_map_or}
 use Rattle.priz_frac.specs.Ratio.{Ratio}
 use Rattle.body_lang.specs.BodyTree.{BodyTree, num}
 use Rattle.body_lang.specs.View.{body_tree}
-use Rattle.body_lang.specs.Mode.{narrowly}
+use Rattle.body_lang.specs.Precision.{narrowly}
 use Rattle.body_lang.specs.Values.{value_at}
 use Rattle.priz_frac.specs.Whole.{whole}
 use Rattle.body_lang.specs.Meaning.{Calls, mean}

@@ -1,7 +1,7 @@
 //! The value of a body.
 ghost use Rattle.std.specs.Prelude.{ℕ};
 ghost use Rattle.body_lang.specs.View.{body_tree};
-ghost use Rattle.body_lang.specs.Mode.{narrowly};
+ghost use Rattle.body_lang.specs.Precision.{narrowly};
 ghost use Rattle.body_lang.specs.Meaning.{Calls, mean};
 ghost use Rattle.body_lang.specs.Operation.{operate, as_run};
 ghost use Rattle.body_lang.specs.Rounds.{one_round, rounds, round_count, rounds_between, replacements, replacements_for};

@@ -1,7 +1,7 @@
 //! Arithmetic, with the faults of runs.
 ghost use Rattle.std.specs.Prelude.{◌≡◌, ◌≤◌, ◌<◌, ◌↔◌, pos, ◌+ℤ◌, unsigned_abs, IsTrue};
 ghost use Rattle.priz_frac.specs.Narrow.{widest};
-ghost use Rattle.body_lang.specs.Mode.{narrowly};
+ghost use Rattle.body_lang.specs.Precision.{narrowly};
 ghost use Rattle.body_lang.specs.Values.{value_at};
 ghost use Rattle.priz_frac.specs.Whole.{whole};
 ghost use Rattle.body_lang.specs.Operation.{operate, holds, run_fault};

@@ -1,7 +1,7 @@
 //! The values that a block gives.
 ghost use Rattle.std.specs.Prelude.{◌≡◌, [], ℕ, pos, length, map, replicate, slice_get, IfOk, IfErr, Ok, None, IsSome, IsSomeAnd};
 ghost use Rattle.std.specs.Vec.{vec_items};
-ghost use Rattle.body_lang.specs.Mode.{narrowly};
+ghost use Rattle.body_lang.specs.Precision.{narrowly};
 ghost use Rattle.body_lang.specs.Values.{value_at};
 ghost use Rattle.priz_frac.specs.Whole.{whole};
 ghost use Rattle.body_lang.specs.Meaning.{Calls, mean};

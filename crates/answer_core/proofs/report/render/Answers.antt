@@ -9,4 +9,4 @@ write_values-requires c =
     let p = c.args.problem.now in
     let right = c.requires.answer in
     let its = subst (λ (a : Answer). IsAnswer p right.0 a) c.in-Program.is right.1 in
-    has_names p c.in-Program.block right.0 c.in-Program.values c.is_well_formed.ensures its.values
+    has_names p c.in-Program.block right.0.turns c.in-Program.values c.is_well_formed.ensures its.values

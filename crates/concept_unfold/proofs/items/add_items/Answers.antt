@@ -4,7 +4,7 @@ use Rattle.utopist_syntax.specs.FileTree.{item_tree}
 use Rattle.concept_unfold.specs.Declarations.{all_variables}
 use Rattle.concept_unfold.specs.Unfolded.{statements_of}
 use Rattle.std.specs.List.{flat_map}
-use Rattle.concept_unfold.proofs.Progress.{item_built, item_size, item_behind_fewer, here_follows, follows_more, variables_more, statements_more, room_more}
+use Rattle.concept_unfold.proofs.Progress.{item_built, item_fits, item_behind_fewer, here_follows, follows_more, variables_more, statements_more, room_more}
 use Rattle.concept_unfold.proofs.items.add_items.Goals as goal
 
 pub add_item-requires-clause-rules : goal.add_item-requires-clause-rules
@@ -17,7 +17,7 @@ pub add_item-requires-clause-built : goal.add_item-requires-clause-built
 add_item-requires-clause-built c = item_built c.args.items.now c.loop-item.item-index c.item-item.result c.loop-item-test.true c.item-item.is c.requires.built
 
 pub add_item-requires-clause-size : goal.add_item-requires-clause-size
-add_item-requires-clause-size c = item_size c.args.items.now c.loop-item.item-index c.item-item.result c.loop-item-test.true c.item-item.is c.requires.size
+add_item-requires-clause-size c = item_fits c.args.items.now c.loop-item.item-index c.item-item.result c.loop-item-test.true c.item-item.is c.requires.size
 
 pub loop-item-preserved : goal.loop-item-preserved
 loop-item-preserved c =

@@ -1,7 +1,7 @@
 use Rattle.std.proofs.Common.{◌∙◌, ◌-◌, ap, sym, arith}
 use Rattle.std.proofs.lemmas.Result.{err_from_is_err_and}
 use Rattle.body_lang.specs.View.{body_tree}
-use Rattle.body_lang.specs.Mode.{narrowly}
+use Rattle.body_lang.specs.Precision.{narrowly}
 use Rattle.body_lang.specs.Meaning.{mean}
 use Rattle.proof_term.specs.LocalValues.{local_values}
 use Rattle.proof_term.specs.Agrees.{repeated_part}

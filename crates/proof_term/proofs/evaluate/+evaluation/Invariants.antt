@@ -1,6 +1,6 @@
 use Rattle.std.proofs.Common.{◌≡◌, ℕ, ◌-◌, pos, ◌+ℤ◌}
 use Rattle.body_lang.specs.View.{body_tree}
-use Rattle.body_lang.specs.Mode.{narrowly}
+use Rattle.body_lang.specs.Precision.{narrowly}
 use Rattle.body_lang.specs.Meaning.{Calls}
 use Rattle.body_lang.specs.Rounds.{rounds, replacements}
 use Rattle.proof_term.specs.LocalValues.{local_values}

@@ -1,0 +1,94 @@
+-- The first token of a form that is not built yet.
+use Rattle.std.specs.Prelude.{◌≡◌, ℕ, Bool, true, false, ◌&&◌, List, [], ◌∷◌, ◌++◌, map, Option, Some, None}
+use Rattle.priz_base.specs.declared.place.Place.{Place}
+use Rattle.utopist_lexer.specs.declared.word.Word.{Word}
+use Rattle.utopist_lexer.specs.declared.word.Word.TheVariants as words
+use Rattle.utopist_lexer.specs.declared.mark.Mark.{Mark}
+use Rattle.utopist_lexer.specs.declared.mark.Mark.TheVariants as marks
+use Rattle.utopist_lexer.specs.declared.token.Kind.{Kind}
+use Rattle.utopist_lexer.specs.declared.token.Kind.TheVariants as kinds
+use Rattle.utopist_lexer.specs.Lexical.{Tok}
+use Rattle.utopist_lexer.specs.Tokens.{Reads}
+use Rattle.file_accept.specs.declared.unbuilt.Context.{Context}
+
+-- whether a keyword begins a form that is not built: parents or an equation
+abbrev pub word_opens : Word → Bool
+word_opens words.Is = true
+word_opens words.Eq = true
+word_opens w = false
+
+-- whether a mark does: a subtask
+abbrev pub mark_opens : Mark → Bool
+mark_opens marks.OpenSquare = true
+mark_opens m = false
+
+-- whether a token does; a name does where it is the type of a variable, and a subtask's number where the subtask is called
+abbrev pub opens : Context → Kind → Bool
+opens c kinds.Name = c.in_var && c.behind_colon
+opens c (kinds.Word w) = word_opens w
+opens c (kinds.Number i) = false
+opens c (kinds.Sub i) = true
+opens c (kinds.Mark m) = mark_opens m
+opens c kinds.End = false
+
+-- whether a keyword is "var"
+abbrev pub is_var : Word → Bool
+is_var words.Var = true
+is_var w = false
+
+-- whether a mark is ":"
+abbrev pub is_colon : Mark → Bool
+is_colon marks.Colon = true
+is_colon m = false
+
+-- what a token leaves before the next one
+abbrev pub context_behind : Context → Kind → Context
+context_behind c kinds.Name = record { in_var = c.in_var; behind_colon = false }
+context_behind c (kinds.Word w) = record { in_var = is_var w; behind_colon = false }
+context_behind c (kinds.Number i) = record { in_var = c.in_var; behind_colon = false }
+context_behind c (kinds.Sub i) = record { in_var = c.in_var; behind_colon = false }
+context_behind c (kinds.Mark m) = record { in_var = c.in_var; behind_colon = is_colon m }
+context_behind c kinds.End = record { in_var = c.in_var; behind_colon = false }
+
+-- what stands before the first token
+abbrev pub at_start : Context
+at_start = record { in_var = false; behind_colon = false }
+
+-- what tokens leave
+abbrev pub behind_all : Context → List Kind → Context
+behind_all c [] = c
+behind_all c (k ∷ ks) = behind_all (context_behind c k) ks
+
+-- none of these tokens begins a form that is not built
+abbrev pub NoneOpens : Context → List Kind → Type 0
+NoneOpens c [] = Unit {0}
+NoneOpens c (k ∷ ks) = (opens c k ≡ false) × NoneOpens (context_behind c k) ks
+
+-- the kinds of tokens
+abbrev pub kinds_of : List Tok → List Kind
+kinds_of ts = map (λ t. t.kind) ts
+
+-- of these tokens, the first that begins such a form stands here
+pub record FirstUnbuilt (ts : List Tok) (place : Place) : Type 0 where
+  pub before : List Tok
+  pub next : Tok
+  pub after : List Tok
+  pub split : ts ≡ before ++ next ∷ after
+  pub none : NoneOpens at_start (kinds_of before)
+  pub unbuilt : opens (behind_all at_start (kinds_of before)) next.kind ≡ true
+  pub here : next.place ≡ place
+
+-- the place of the first of these tokens that begins such a form, or none
+abbrev pub UnbuiltIn : List Tok → Option Place → Type 0
+UnbuiltIn ts (Some p) = FirstUnbuilt ts p
+UnbuiltIn ts None = NoneOpens at_start (kinds_of ts)
+
+-- what is found with one more token, which may begin such a form and stands here
+abbrev pub found_with : Option Place → Bool → Place → Option Place
+found_with (Some p) unbuilt place = Some p
+found_with None true place = Some place
+found_with None false place = None
+
+-- the same of the tokens of a text
+abbrev pub UnbuiltOf : List ℕ → Option Place → Type 0
+UnbuiltOf text found = (ts : List Tok) → Reads text ts → UnbuiltIn ts found

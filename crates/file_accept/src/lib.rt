@@ -1,0 +1,14 @@
+//! From the text of a file to the problems of its compute statements, or to the first cause of its refusal.
+#![tactic(auto)]
+
+mod fault;
+mod laws;
+mod problems;
+mod reading;
+#[cfg(test)]
+mod tests;
+mod unbuilt;
+
+pub use fault::FileFault;
+pub use laws::texts_are_refused_for_one_cause;
+pub use problems::problems_of;

@@ -1,6 +1,0 @@
-use Rattle.utopist_syntax.specs.FileTree.{file_tree}
-use Rattle.priz_cli.proofs.Unfolds.{unfolding_decides}
-use Rattle.priz_cli.proofs.problems.problems_of.Goals as goal
-
-pub returns-clause-rules : goal.returns-clause-rules
-returns-clause-rules c = unfolding_decides (file_tree c.args.file.now) c.unfold_all.result c.in_ok-check_concepts.ensures c.unfold_all.ensures.rules

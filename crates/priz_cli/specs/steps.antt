@@ -1,0 +1,5 @@
+pub mod Faults
+pub mod InputOf
+pub mod MadeOf
+pub mod Solves
+pub mod TextOf
