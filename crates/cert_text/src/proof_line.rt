@@ -1,4 +1,5 @@
-ghost use Rattle.std.specs.Prelude.{◌≡◌, ◌++◌, ◌<◌, length, OnOk};
+ghost use Rattle.std.specs.Prelude.{◌<◌, length};
+ghost use Rattle.priz_base.specs.Printing.{Prints};
 ghost use Rattle.proof_term.specs.Plain.{subs_of};
 ghost use Rattle.cert_text.specs.BlockText.{block_text, subs_text, proof_line};
 ghost use Rattle.cert_text.specs.Parts.{step_text, sub_text};
@@ -9,7 +10,7 @@ use proof_term::{Block, Step, Sub};
 
 /// Appends `proof `, the block and a line feed.
 pub fn write_proof(block: &Block, out: &mut Vec<u8>) -> Result<(), NoMem>
-    ensures { OnOk result (out.new.items ≡ out.old.items ++ proof_line block.now) }
+    ensures { Prints (proof_line block.now) result out.old.items out.new.items }
 {
     out.extend_from_slice(b"proof ")?;
     write_block(block, out)?;
@@ -19,7 +20,7 @@ pub fn write_proof(block: &Block, out: &mut Vec<u8>) -> Result<(), NoMem>
 
 #[cycle(block)]
 fn write_block(block: &Block, out: &mut Vec<u8>) -> Result<(), NoMem>
-    ensures { OnOk result (out.new.items ≡ out.old.items ++ block_text block.now) }
+    ensures { Prints (block_text block.now) result out.old.items out.new.items }
 {
     out.push(b'{')?;
     for step in block.steps.as_slice() {
@@ -31,7 +32,7 @@ fn write_block(block: &Block, out: &mut Vec<u8>) -> Result<(), NoMem>
 
 #[cycle(block)]
 fn write_step(step: &Step, out: &mut Vec<u8>) -> Result<(), NoMem>
-    ensures { OnOk result (out.new.items ≡ out.old.items ++ step_text step.now) }
+    ensures { Prints (step_text step.now) result out.old.items out.new.items }
 {
     out.extend_from_slice(Buffer::new().format(step.stmt).as_bytes())?;
     if !step.subs.is_empty() {
@@ -44,7 +45,7 @@ fn write_step(step: &Step, out: &mut Vec<u8>) -> Result<(), NoMem>
 #[cycle(block)]
 fn write_subs(subs: &[Sub], out: &mut Vec<u8>) -> Result<(), NoMem>
     requires { 0 < length subs.now }
-    ensures { OnOk result (out.new.items ≡ out.old.items ++ subs_text (subs_of subs.now)) }
+    ensures { Prints (subs_text (subs_of subs.now)) result out.old.items out.new.items }
 {
     let mut before = b'(';
     for sub in subs {
@@ -58,7 +59,7 @@ fn write_subs(subs: &[Sub], out: &mut Vec<u8>) -> Result<(), NoMem>
 
 #[cycle(block)]
 fn write_sub(sub: &Sub, out: &mut Vec<u8>) -> Result<(), NoMem>
-    ensures { OnOk result (out.new.items ≡ out.old.items ++ sub_text sub.now) }
+    ensures { Prints (sub_text sub.now) result out.old.items out.new.items }
 {
     match sub {
         Sub::Known => out.extend_from_slice(b"known")?,

@@ -1,5 +1,6 @@
-ghost use Rattle.std.specs.Prelude.{◌≡◌, ◌++◌, ◌+◌, ◌*◌, ◌<◌, ◌≤◌, ◌^◌, false, length, OnOk};
+ghost use Rattle.std.specs.Prelude.{◌≡◌, ◌<◌, ◌≤◌, ◌^◌, false};
 ghost use Rattle.std.specs.Fmt.{digit_glyph};
+ghost use Rattle.priz_base.specs.Printing.{Prints};
 ghost use Rattle.cert_text.specs.WorldText.{bit_of, four_of, world_text, worlds_line};
 
 use kripke_check::Worlds;
@@ -7,8 +8,7 @@ use priz_base::{NoMem, Var, VarSet};
 
 /// Appends `worlds`, a blank and its text for each world of n variables, and a line feed.
 pub fn write_worlds(n: u32, worlds: &Worlds, out: &mut Vec<u8>) -> Result<(), NoMem>
-    requires { n ≤ 1024 }
-    ensures { OnOk result (out.new.items ≡ out.old.items ++ worlds_line n worlds.now) }
+    ensures { Prints (worlds_line n worlds.now) result out.old.items out.new.items }
 {
     out.extend_from_slice(b"worlds")?;
     for world in worlds.sets() {
@@ -20,8 +20,7 @@ pub fn write_worlds(n: u32, worlds: &Worlds, out: &mut Vec<u8>) -> Result<(), No
 }
 
 fn write_world(n: u32, world: &VarSet, out: &mut Vec<u8>) -> Result<(), NoMem>
-    requires { n ≤ 1024 }
-    ensures { OnOk result (out.new.items ≡ out.old.items ++ world_text n world.now) }
+    ensures { Prints (world_text n world.now) result out.old.items out.new.items }
 {
     for j in 0..n.div_ceil(4) {
         out.push(digit(world, j))?;

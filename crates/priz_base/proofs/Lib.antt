@@ -5,3 +5,4 @@ pub mod Words
 pub mod Within
 pub mod More
 pub mod Pieces
+pub mod Kept

@@ -7,3 +7,4 @@ pub mod Sink
 pub mod Memory
 pub mod Reading
 pub mod Writing
+pub mod Printing
