@@ -1,4 +1,4 @@
-ghost use Rattle.std.specs.Prelude.{◌≡◌, ◌++◌, OnOk};
+ghost use Rattle.priz_base.specs.Printing.{Prints};
 ghost use Rattle.utopist_syntax.specs.FractionText.{fraction_text};
 
 use crate::pieces::print_number;
@@ -7,7 +7,7 @@ use priz_frac::Frac;
 
 /// Appends a fraction: its numerator, and behind `/` its denominator, if that isn't 1.
 pub fn print_fraction(fraction: Frac, out: &mut Vec<u8>) -> Result<(), NoMem>
-    ensures { OnOk result (out.new.items ≡ out.old.items ++ fraction_text fraction) }
+    ensures { Prints (fraction_text fraction) result out.old.items out.new.items }
 {
     print_number(fraction.num(), out)?;
     if fraction.den() == 1 {

@@ -1,5 +1,5 @@
 //! The tree of the language, and its canonical text.
-#![tactic(auto)]
+#![tactic(auto, using(priz_base::proofs::Kept::kept))]
 
 mod compute;
 mod concept;

@@ -1,5 +1,5 @@
-ghost use Rattle.std.specs.Prelude.{◌≡◌, ◌++◌, OnOk};
 ghost use Rattle.std.specs.Fmt.{signed_decimal};
+ghost use Rattle.priz_base.specs.Printing.{Prints};
 ghost use Rattle.utopist_syntax.specs.Round.{if_needed};
 
 use itoa::Buffer;
@@ -7,7 +7,7 @@ use priz_base::NoMem;
 
 /// Appends a text.
 pub fn print_text(text: &[u8], out: &mut Vec<u8>) -> Result<(), NoMem>
-    ensures { OnOk result (out.new.items ≡ out.old.items ++ text.now) }
+    ensures { Prints text.now result out.old.items out.new.items }
 {
     out.extend_from_slice(text)?;
     Ok(())
@@ -15,7 +15,7 @@ pub fn print_text(text: &[u8], out: &mut Vec<u8>) -> Result<(), NoMem>
 
 /// Appends a text where it is needed.
 pub fn print_if(needed: bool, text: &[u8], out: &mut Vec<u8>) -> Result<(), NoMem>
-    ensures { OnOk result (out.new.items ≡ out.old.items ++ if_needed needed text.now) }
+    ensures { Prints (if_needed needed text.now) result out.old.items out.new.items }
 {
     if needed {
         out.extend_from_slice(text)?;
@@ -25,7 +25,7 @@ pub fn print_if(needed: bool, text: &[u8], out: &mut Vec<u8>) -> Result<(), NoMe
 
 /// Appends a number in decimal.
 pub fn print_number(n: i64, out: &mut Vec<u8>) -> Result<(), NoMem>
-    ensures { OnOk result (out.new.items ≡ out.old.items ++ signed_decimal n) }
+    ensures { Prints (signed_decimal n) result out.old.items out.new.items }
 {
     out.extend_from_slice(Buffer::new().format(n).as_bytes())?;
     Ok(())

@@ -1,5 +1,6 @@
-ghost use Rattle.std.specs.Prelude.{◌≡◌, ◌++◌, codes, OnOk};
+ghost use Rattle.std.specs.Prelude.{codes};
 ghost use Rattle.std.specs.List.{join_by};
+ghost use Rattle.priz_base.specs.Printing.{Prints};
 ghost use Rattle.utopist_syntax.specs.ItemText.{bind_text, binds_text};
 
 use crate::Bind;
@@ -9,7 +10,7 @@ use priz_base::NoMem;
 
 /// Appends the bindings of a variable in parentheses, or nothing where there are none.
 pub fn print_binds(binds: &[Bind], out: &mut Vec<u8>) -> Result<(), NoMem>
-    ensures { OnOk result (out.new.items ≡ out.old.items ++ binds_text binds.now) }
+    ensures { Prints (binds_text binds.now) result out.old.items out.new.items }
 {
     if binds.is_empty() {
         return Ok(());
@@ -21,7 +22,7 @@ pub fn print_binds(binds: &[Bind], out: &mut Vec<u8>) -> Result<(), NoMem>
 }
 
 fn print_list(binds: &[Bind], out: &mut Vec<u8>) -> Result<(), NoMem>
-    ensures { OnOk result (out.new.items ≡ out.old.items ++ join_by bind_text (codes ", ") binds.now) }
+    ensures { Prints (join_by bind_text (codes ", ") binds.now) result out.old.items out.new.items }
 {
     let mut first = true;
     for bind in binds {
@@ -33,9 +34,10 @@ fn print_list(binds: &[Bind], out: &mut Vec<u8>) -> Result<(), NoMem>
 }
 
 fn print_bind(bind: &Bind, out: &mut Vec<u8>) -> Result<(), NoMem>
-    ensures { OnOk result (out.new.items ≡ out.old.items ++ bind_text bind.now) }
+    ensures { Prints (bind_text bind.now) result out.old.items out.new.items }
 {
     print_path(&bind.left, out)?;
     out.extend_from_slice(b" = ")?;
-    print_path(&bind.right, out)
+    print_path(&bind.right, out)?;
+    Ok(())
 }

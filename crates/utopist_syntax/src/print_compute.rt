@@ -1,5 +1,6 @@
-ghost use Rattle.std.specs.Prelude.{◌≡◌, ◌++◌, codes, OnOk};
+ghost use Rattle.std.specs.Prelude.{codes};
 ghost use Rattle.std.specs.List.{join_by};
+ghost use Rattle.priz_base.specs.Printing.{Prints};
 ghost use Rattle.utopist_syntax.specs.ComputeText.{value_text, given_text, givens_text, compute_text};
 
 use crate::pieces::print_if;
@@ -10,7 +11,7 @@ use priz_frac::Frac;
 
 /// Appends a compute statement, on one line.
 pub fn print_compute(compute: &Compute, out: &mut Vec<u8>) -> Result<(), NoMem>
-    ensures { OnOk result (out.new.items ≡ out.old.items ++ compute_text compute.now) }
+    ensures { Prints (compute_text compute.now) result out.old.items out.new.items }
 {
     out.extend_from_slice(b"compute ")?;
     out.extend_from_slice(compute.name.text().as_bytes())?;
@@ -23,7 +24,7 @@ pub fn print_compute(compute: &Compute, out: &mut Vec<u8>) -> Result<(), NoMem>
 }
 
 fn print_givens(givens: &[GivenPath], out: &mut Vec<u8>) -> Result<(), NoMem>
-    ensures { OnOk result (out.new.items ≡ out.old.items ++ givens_text givens.now) }
+    ensures { Prints (givens_text givens.now) result out.old.items out.new.items }
 {
     if givens.is_empty() {
         return Ok(());
@@ -35,7 +36,8 @@ fn print_givens(givens: &[GivenPath], out: &mut Vec<u8>) -> Result<(), NoMem>
 }
 
 fn print_list(givens: &[GivenPath], out: &mut Vec<u8>) -> Result<(), NoMem>
-    ensures { OnOk result (out.new.items ≡ out.old.items ++ join_by given_text (codes ", ") givens.now) }
+    ensures { Prints (join_by given_text (codes ", ") givens.now) result
+        out.old.items out.new.items }
 {
     let mut first = true;
     for given in givens {
@@ -47,14 +49,15 @@ fn print_list(givens: &[GivenPath], out: &mut Vec<u8>) -> Result<(), NoMem>
 }
 
 fn print_given(given: &GivenPath, out: &mut Vec<u8>) -> Result<(), NoMem>
-    ensures { OnOk result (out.new.items ≡ out.old.items ++ given_text given.now) }
+    ensures { Prints (given_text given.now) result out.old.items out.new.items }
 {
     print_path(&given.path, out)?;
-    print_value(given.value, out)
+    print_value(given.value, out)?;
+    Ok(())
 }
 
 fn print_value(value: Option<Frac>, out: &mut Vec<u8>) -> Result<(), NoMem>
-    ensures { OnOk result (out.new.items ≡ out.old.items ++ value_text value) }
+    ensures { Prints (value_text value) result out.old.items out.new.items }
 {
     match value {
         None => Ok(()),

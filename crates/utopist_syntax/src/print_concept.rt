@@ -1,5 +1,5 @@
-ghost use Rattle.std.specs.Prelude.{◌≡◌, ◌++◌, OnOk};
 ghost use Rattle.std.specs.List.{flat_map};
+ghost use Rattle.priz_base.specs.Printing.{Prints};
 ghost use Rattle.utopist_syntax.specs.ConceptText.{parents_text, item_line, concept_text};
 
 use crate::print_item::print_item;
@@ -9,7 +9,7 @@ use priz_base::NoMem;
 
 /// Appends a concept, with a line for each of its items.
 pub fn print_concept(concept: &Concept, out: &mut Vec<u8>) -> Result<(), NoMem>
-    ensures { OnOk result (out.new.items ≡ out.old.items ++ concept_text concept.now) }
+    ensures { Prints (concept_text concept.now) result out.old.items out.new.items }
 {
     out.extend_from_slice(b"concept ")?;
     out.extend_from_slice(concept.name.text().as_bytes())?;
@@ -21,7 +21,7 @@ pub fn print_concept(concept: &Concept, out: &mut Vec<u8>) -> Result<(), NoMem>
 }
 
 fn print_parents(parents: &[Name], out: &mut Vec<u8>) -> Result<(), NoMem>
-    ensures { OnOk result (out.new.items ≡ out.old.items ++ parents_text parents.now) }
+    ensures { Prints (parents_text parents.now) result out.old.items out.new.items }
 {
     if parents.is_empty() {
         return Ok(());
@@ -31,7 +31,7 @@ fn print_parents(parents: &[Name], out: &mut Vec<u8>) -> Result<(), NoMem>
 }
 
 fn print_items(items: &[Item], out: &mut Vec<u8>) -> Result<(), NoMem>
-    ensures { OnOk result (out.new.items ≡ out.old.items ++ flat_map item_line items.now) }
+    ensures { Prints (flat_map item_line items.now) result out.old.items out.new.items }
 {
     for item in items {
         print_line(item, out)?;
@@ -40,7 +40,7 @@ fn print_items(items: &[Item], out: &mut Vec<u8>) -> Result<(), NoMem>
 }
 
 fn print_line(item: &Item, out: &mut Vec<u8>) -> Result<(), NoMem>
-    ensures { OnOk result (out.new.items ≡ out.old.items ++ item_line item.now) }
+    ensures { Prints (item_line item.now) result out.old.items out.new.items }
 {
     out.extend_from_slice(b"  ")?;
     print_item(item, out)?;

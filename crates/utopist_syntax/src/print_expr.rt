@@ -1,8 +1,9 @@
-ghost use Rattle.std.specs.Prelude.{◌≡◌, ◌++◌, codes, OnOk};
+ghost use Rattle.std.specs.Prelude.{◌≡◌, ◌++◌, codes};
+ghost use Rattle.priz_base.specs.Printing.{Prints};
 ghost use Rattle.utopist_syntax.specs.View.{tree_of, trees_of};
 ghost use Rattle.utopist_syntax.specs.ExprText.{op_text, cmp_text, loop_text, text_at, args_text, call_text, expr_text};
 
-use crate::pieces::{print_if, print_number, print_text};
+use crate::pieces::{print_if, print_number};
 use crate::position::Position;
 use crate::print_path::print_path;
 use crate::{Expr, Name};
@@ -11,14 +12,14 @@ use priz_base::NoMem;
 
 /// Appends an expression that stands alone.
 pub fn print_expr(expr: &Expr, out: &mut Vec<u8>) -> Result<(), NoMem>
-    ensures { OnOk result (out.new.items ≡ out.old.items ++ expr_text (tree_of expr.now)) }
+    ensures { Prints (expr_text (tree_of expr.now)) result out.old.items out.new.items }
 {
     print_at(Position::Alone, expr, out)
 }
 
 #[cycle(expr)]
 fn print_at(position: Position, expr: &Expr, out: &mut Vec<u8>) -> Result<(), NoMem>
-    ensures { OnOk result (out.new.items ≡ out.old.items ++ text_at position (tree_of expr.now)) }
+    ensures { Prints (text_at position (tree_of expr.now)) result out.old.items out.new.items }
 {
     match expr {
         Expr::Num(n) => print_number(*n, out),
@@ -29,7 +30,8 @@ fn print_at(position: Position, expr: &Expr, out: &mut Vec<u8>) -> Result<(), No
             print_if(round, b"(", out)?;
             print_at(Position::LeftOf(*op), left.get(), out)?;
             print_part(operator(*op), Position::RightOf(*op), right.get(), out)?;
-            print_if(round, b")", out)
+            print_if(round, b")", out)?;
+            Ok(())
         }
         Expr::If {
             cmp,
@@ -44,7 +46,8 @@ fn print_at(position: Position, expr: &Expr, out: &mut Vec<u8>) -> Result<(), No
             print_part(comparison(*cmp), Position::Compared, right.get(), out)?;
             print_part(b" then ", Position::Alone, yes.get(), out)?;
             print_part(b" else ", Position::Alone, no.get(), out)?;
-            print_if(round, b")", out)
+            print_if(round, b")", out)?;
+            Ok(())
         }
         Expr::Loop {
             kind,
@@ -57,7 +60,8 @@ fn print_at(position: Position, expr: &Expr, out: &mut Vec<u8>) -> Result<(), No
             print_part(b", ", Position::Alone, first.get(), out)?;
             print_part(b", ", Position::Alone, second.get(), out)?;
             print_part(b", ", Position::Alone, each.get(), out)?;
-            print_text(b")", out)
+            out.push(b')')?;
+            Ok(())
         }
         Expr::Call { k, place: _, args } => print_call(*k, args.as_slice(), out),
     }
@@ -71,7 +75,8 @@ fn print_part(
     part: &Expr,
     out: &mut Vec<u8>,
 ) -> Result<(), NoMem>
-    ensures { OnOk result (out.new.items ≡ out.old.items ++ (before.now ++ text_at position (tree_of part.now))) }
+    ensures { Prints (before.now ++ text_at position (tree_of part.now)) result
+        out.old.items out.new.items }
 {
     out.extend_from_slice(before)?;
     print_at(position, part, out)
@@ -79,7 +84,8 @@ fn print_part(
 
 #[cycle(expr)]
 fn print_call(k: i64, args: &[Expr], out: &mut Vec<u8>) -> Result<(), NoMem>
-    ensures { OnOk result (out.new.items ≡ out.old.items ++ call_text k (args_text (trees_of args.now))) }
+    ensures { Prints (call_text k (args_text (trees_of args.now))) result
+        out.old.items out.new.items }
 {
     out.push(b'$')?;
     print_number(k, out)?;
@@ -91,7 +97,7 @@ fn print_call(k: i64, args: &[Expr], out: &mut Vec<u8>) -> Result<(), NoMem>
 
 #[cycle(expr)]
 fn print_args(args: &[Expr], out: &mut Vec<u8>) -> Result<(), NoMem>
-    ensures { OnOk result (out.new.items ≡ out.old.items ++ args_text (trees_of args.now)) }
+    ensures { Prints (args_text (trees_of args.now)) result out.old.items out.new.items }
 {
     let mut first = true;
     for arg in args {
@@ -104,7 +110,7 @@ fn print_args(args: &[Expr], out: &mut Vec<u8>) -> Result<(), NoMem>
 
 // The word of a loop, and its name.
 fn print_head(word: &[u8], name: &Name, out: &mut Vec<u8>) -> Result<(), NoMem>
-    ensures { OnOk result (out.new.items ≡ out.old.items ++ (word.now ++ (codes "(" ++ name.now.text))) }
+    ensures { Prints (word.now ++ (codes "(" ++ name.now.text)) result out.old.items out.new.items }
 {
     out.extend_from_slice(word)?;
     out.push(b'(')?;

@@ -1,5 +1,7 @@
-ghost use Rattle.std.specs.Prelude.{◌≡◌, ◌++◌, OnOk};
+ghost use Rattle.std.specs.Prelude.{◌++◌, codes};
+ghost use Rattle.priz_base.specs.Printing.{Prints};
 ghost use Rattle.utopist_syntax.specs.ItemText.{item_text, kind_text, body_text, var_text, eq_text, rel_text};
+ghost use Rattle.utopist_syntax.specs.PathText.{path_text};
 
 use crate::pieces::print_text;
 use crate::print_binds::print_binds;
@@ -11,7 +13,7 @@ use priz_base::NoMem;
 
 /// Appends an item with its semicolon.
 pub fn print_item(item: &Item, out: &mut Vec<u8>) -> Result<(), NoMem>
-    ensures { OnOk result (out.new.items ≡ out.old.items ++ item_text item.now) }
+    ensures { Prints (item_text item.now) result out.old.items out.new.items }
 {
     match item {
         Item::Var { names, kind, binds } => {
@@ -28,7 +30,7 @@ pub fn print_item(item: &Item, out: &mut Vec<u8>) -> Result<(), NoMem>
 }
 
 fn print_var(names: &[Name], kind: &VarKind, binds: &[Bind], out: &mut Vec<u8>) -> Result<(), NoMem>
-    ensures { OnOk result (out.new.items ≡ out.old.items ++ var_text names.now kind.now binds.now) }
+    ensures { Prints (var_text names.now kind.now binds.now) result out.old.items out.new.items }
 {
     out.extend_from_slice(b"var ")?;
     print_names(names, b", ", out)?;
@@ -40,7 +42,7 @@ fn print_var(names: &[Name], kind: &VarKind, binds: &[Bind], out: &mut Vec<u8>) 
 }
 
 fn print_kind(kind: &VarKind, out: &mut Vec<u8>) -> Result<(), NoMem>
-    ensures { OnOk result (out.new.items ≡ out.old.items ++ kind_text kind.now) }
+    ensures { Prints (kind_text kind.now) result out.old.items out.new.items }
 {
     match kind {
         VarKind::Numeric => print_text(b"numeric", out),
@@ -49,7 +51,7 @@ fn print_kind(kind: &VarKind, out: &mut Vec<u8>) -> Result<(), NoMem>
 }
 
 fn print_eq(left: &Expr, right: &Expr, out: &mut Vec<u8>) -> Result<(), NoMem>
-    ensures { OnOk result (out.new.items ≡ out.old.items ++ eq_text left.now right.now) }
+    ensures { Prints (eq_text left.now right.now) result out.old.items out.new.items }
 {
     out.extend_from_slice(b"eq ")?;
     print_expr(left, out)?;
@@ -66,12 +68,22 @@ fn print_rel(
     body: &Option<Expr>,
     out: &mut Vec<u8>,
 ) -> Result<(), NoMem>
-    ensures { OnOk result (out.new.items ≡ out.old.items ++ rel_text name.now parts.now output.now body.now) }
+    ensures { Prints (rel_text name.now parts.now output.now body.now) result
+        out.old.items out.new.items }
 {
     out.extend_from_slice(b"rel ")?;
     out.extend_from_slice(name.text().as_bytes())?;
     out.extend_from_slice(b" : ")?;
     print_parts(parts, out)?;
+    print_result(output, body, out)?;
+    Ok(())
+}
+
+// What a relation gives, and its body.
+fn print_result(output: &Path, body: &Option<Expr>, out: &mut Vec<u8>) -> Result<(), NoMem>
+    ensures { Prints (codes "-> " ++ (path_text output.now ++ (body_text body.now ++ codes ";")))
+        result out.old.items out.new.items }
+{
     out.extend_from_slice(b"-> ")?;
     print_path(output, out)?;
     print_body(body, out)?;
@@ -80,7 +92,7 @@ fn print_rel(
 }
 
 fn print_body(body: &Option<Expr>, out: &mut Vec<u8>) -> Result<(), NoMem>
-    ensures { OnOk result (out.new.items ≡ out.old.items ++ body_text body.now) }
+    ensures { Prints (body_text body.now) result out.old.items out.new.items }
 {
     let Some(expr) = body else {
         return Ok(());

@@ -1,15 +1,16 @@
-ghost use Rattle.std.specs.Prelude.{◌≡◌, ◌++◌, codes, OnOk};
+ghost use Rattle.std.specs.Prelude.{codes};
 ghost use Rattle.std.specs.List.{join_by};
+ghost use Rattle.priz_base.specs.Printing.{Prints};
 ghost use Rattle.utopist_syntax.specs.ItemText.{task_text, part_text, parts_text};
 
-use crate::pieces::{print_if, print_text};
+use crate::pieces::print_if;
 use crate::print_path::{print_path, print_paths};
 use crate::{Part, Path};
 use priz_base::NoMem;
 
 /// Appends the parts of a relation and a space, or nothing where there are none.
 pub fn print_parts(parts: &[Part], out: &mut Vec<u8>) -> Result<(), NoMem>
-    ensures { OnOk result (out.new.items ≡ out.old.items ++ parts_text parts.now) }
+    ensures { Prints (parts_text parts.now) result out.old.items out.new.items }
 {
     if parts.is_empty() {
         return Ok(());
@@ -20,7 +21,7 @@ pub fn print_parts(parts: &[Part], out: &mut Vec<u8>) -> Result<(), NoMem>
 }
 
 fn print_list(parts: &[Part], out: &mut Vec<u8>) -> Result<(), NoMem>
-    ensures { OnOk result (out.new.items ≡ out.old.items ++ join_by part_text (codes ", ") parts.now) }
+    ensures { Prints (join_by part_text (codes ", ") parts.now) result out.old.items out.new.items }
 {
     let mut first = true;
     for part in parts {
@@ -32,23 +33,25 @@ fn print_list(parts: &[Part], out: &mut Vec<u8>) -> Result<(), NoMem>
 }
 
 fn print_part(part: &Part, out: &mut Vec<u8>) -> Result<(), NoMem>
-    ensures { OnOk result (out.new.items ≡ out.old.items ++ part_text part.now) }
+    ensures { Prints (part_text part.now) result out.old.items out.new.items }
 {
     match part {
         Part::Input(path) => print_path(path, out),
         Part::Subtask { inputs, output } => {
             out.push(b'[')?;
             print_task(inputs.as_slice(), output, out)?;
-            print_text(b"]", out)
+            out.push(b']')?;
+            Ok(())
         }
     }
 }
 
 fn print_task(inputs: &[Path], output: &Path, out: &mut Vec<u8>) -> Result<(), NoMem>
-    ensures { OnOk result (out.new.items ≡ out.old.items ++ task_text inputs.now output.now) }
+    ensures { Prints (task_text inputs.now output.now) result out.old.items out.new.items }
 {
     print_paths(inputs, out)?;
     print_if(!inputs.is_empty(), b" ", out)?;
     out.extend_from_slice(b"-> ")?;
-    print_path(output, out)
+    print_path(output, out)?;
+    Ok(())
 }

@@ -1,4 +1,4 @@
-ghost use Rattle.std.specs.Prelude.{◌≡◌, ◌++◌, OnOk};
+ghost use Rattle.priz_base.specs.Printing.{Prints};
 ghost use Rattle.utopist_syntax.specs.PathText.{names_text, path_text, paths_text};
 
 use crate::pieces::print_if;
@@ -7,14 +7,14 @@ use priz_base::NoMem;
 
 /// Appends a path, its names joined by dots.
 pub fn print_path(path: &Path, out: &mut Vec<u8>) -> Result<(), NoMem>
-    ensures { OnOk result (out.new.items ≡ out.old.items ++ path_text path.now) }
+    ensures { Prints (path_text path.now) result out.old.items out.new.items }
 {
     print_names(path.parts.as_slice(), b".", out)
 }
 
 /// Appends names with a text between each two.
 pub fn print_names(names: &[Name], between: &[u8], out: &mut Vec<u8>) -> Result<(), NoMem>
-    ensures { OnOk result (out.new.items ≡ out.old.items ++ names_text between.now names.now) }
+    ensures { Prints (names_text between.now names.now) result out.old.items out.new.items }
 {
     let mut first = true;
     for name in names {
@@ -27,7 +27,7 @@ pub fn print_names(names: &[Name], between: &[u8], out: &mut Vec<u8>) -> Result<
 
 /// Appends paths with commas between them.
 pub fn print_paths(paths: &[Path], out: &mut Vec<u8>) -> Result<(), NoMem>
-    ensures { OnOk result (out.new.items ≡ out.old.items ++ paths_text paths.now) }
+    ensures { Prints (paths_text paths.now) result out.old.items out.new.items }
 {
     let mut first = true;
     for path in paths {
