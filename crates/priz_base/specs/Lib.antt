@@ -5,6 +5,7 @@ pub mod Faults
 pub mod Source
 pub mod Sink
 pub mod Memory
+pub mod System
 pub mod Reading
 pub mod Writing
 pub mod Printing

@@ -25,9 +25,17 @@ impl<'a> Model for MemSink<'a> {
 
     ghost Value = { Holding };
 
-    ghost view = { λ s. record { written = s.bytes.items; room = s.room; most = s.most; fails = s.fails.now; calls = s.calls; faults = s.faults } };
+    ghost view = { λ s. record {
+      written = s.bytes.items;
+      room = s.room;
+      most = s.most;
+      fails = s.fails.now;
+      calls = s.calls;
+      faults = s.faults;
+    } };
 
-    ghost invariant = { λ s. (1 ≤ s.most) × (vec_len s.bytes ≤ s.room) × (s.room ≤ vec_capacity s.bytes) × (s.faults < 2 ^ 64) };
+    ghost invariant = { λ s. (1 ≤ s.most) × (vec_len s.bytes ≤ s.room)
+        × (s.room ≤ vec_capacity s.bytes) × (s.faults < 2 ^ 64) };
 }
 
 impl<'a> MemSink<'a> {
@@ -39,7 +47,14 @@ impl<'a> MemSink<'a> {
         fails: &'a [u64],
     ) -> Result<MemSink<'a>, NoMem>
         requires { 1 ≤ most }
-        ensures { IfOk result (λ s. s ≡ record { written = []; room = room; most = most; fails = fails.entry.now; calls = 0; faults = 0 }) }
+        ensures { IfOk result (λ s. s ≡ record {
+          written = [];
+          room = room;
+          most = most;
+          fails = fails.entry.now;
+          calls = 0;
+          faults = 0;
+        }) }
     {
         let bytes = Vec::with_capacity(alloc, room)?;
         Ok(MemSink {
@@ -73,7 +88,8 @@ impl<'a> Sink for MemSink<'a> {
         ensures last { self.new.faults ≤ last_count }
         ensures cause { result ≡ Push.Failed → Rose self.old.faults self.new.faults }
         ensures counted { CountsPush result self.old.faults self.new.faults }
-        ensures named { result ≡ Push.Failed ↔ (Contains self.old.fails self.old.calls ⊎ (length self.old.written ≡ self.old.room)) }
+        ensures named { result ≡ Push.Failed ↔
+            (Contains self.old.fails self.old.calls ⊎ (length self.old.written ≡ self.old.room)) }
         ensures most { FitsPush result (take self.old.most from.now) }
         ensures within { length self.new.written ≤ self.new.room }
         ensures calls { self.new.calls ≡ next_count self.old.calls }

@@ -22,7 +22,13 @@ impl<'a> Model for MemSource<'a> {
 
     ghost Value = { Failing };
 
-    ghost view = { λ s. record { left = s.rest.now; most = s.most; fails = s.fails.now; calls = s.calls; faults = s.faults } };
+    ghost view = { λ s. record {
+      left = s.rest.now;
+      most = s.most;
+      fails = s.fails.now;
+      calls = s.calls;
+      faults = s.faults;
+    } };
 
     ghost invariant = { λ s. (1 ≤ s.most) × (s.faults < 2 ^ 64) };
 }
@@ -30,7 +36,13 @@ impl<'a> Model for MemSource<'a> {
 impl<'a> MemSource<'a> {
     pub fn new(bytes: &'a [u8], most: usize, fails: &'a [u64]) -> MemSource<'a>
         requires { 1 ≤ most }
-        ensures { result ≡ record { left = bytes.entry.now; most = most; fails = fails.entry.now; calls = 0; faults = 0 } }
+        ensures { result ≡ record {
+          left = bytes.entry.now;
+          most = most;
+          fails = fails.entry.now;
+          calls = 0;
+          faults = 0;
+        } }
     {
         MemSource {
             rest: bytes,

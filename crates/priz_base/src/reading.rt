@@ -25,7 +25,8 @@ pub enum ReadStop {
 pub fn read_all<S: Source>(alloc: Global, source: &mut S) -> Result<Vec<u8>, ReadStop>
     ensures bytes { ReadsWhole (S.left source.old) (S.left source.new) result }
     ensures later { S.faults source.old ≤ S.faults source.new }
-    ensures fault { IsErrOf result ReadStop.ReadFault → Rose (S.faults source.old) (S.faults source.new) }
+    ensures fault { IsErrOf result ReadStop.ReadFault →
+        Rose (S.faults source.old) (S.faults source.new) }
 {
     let mut chunk = [0u8; CHUNK];
     let mut bytes = Vec::new(alloc);

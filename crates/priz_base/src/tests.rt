@@ -10,7 +10,7 @@ use std::io;
 use std::io::{Read, Write};
 use std::test::Fail;
 
-/// A reader and a writer that always fail.
+/// A reader and a writer that fail at each read and at each write.
 #[derive(Drop)]
 struct Broken;
 
@@ -27,6 +27,34 @@ impl Write for Broken {
 
     fn flush(&mut self) -> io::Result<()> {
         Ok(())
+    }
+}
+
+/// A writer that takes no byte.
+#[derive(Drop)]
+struct Full;
+
+impl Write for Full {
+    fn write(&mut self, _from: &[u8]) -> io::Result<usize> {
+        Ok(0)
+    }
+
+    fn flush(&mut self) -> io::Result<()> {
+        Ok(())
+    }
+}
+
+/// A writer that takes all bytes, and fails at each flush.
+#[derive(Drop)]
+struct Stuck;
+
+impl Write for Stuck {
+    fn write(&mut self, from: &[u8]) -> io::Result<usize> {
+        Ok(from.len())
+    }
+
+    fn flush(&mut self) -> io::Result<()> {
+        Err(io::Error::other("stuck"))
     }
 }
 
@@ -88,6 +116,9 @@ fn streams_over_readers_and_writers(rt: HostRuntime) -> Result<(), Fail> {
     let mut written = Vec::new(alloc);
     assert_eq!(rt; StdSink::new(&mut written).push(b"abc"), Push::Took(3));
     assert_eq!(rt; written.as_slice(), b"abc".as_slice());
+    // A failing write, a write of 0 bytes and a failing flush.
     assert_eq!(rt; StdSink::new(Broken).push(b"abc"), Push::Failed);
+    assert_eq!(rt; StdSink::new(Full).push(b"abc"), Push::Failed);
+    assert_eq!(rt; StdSink::new(Stuck).push(b"abc"), Push::Failed);
     Ok(())
 }
