@@ -1,18 +1,20 @@
 -- The first step of a block that has no body.
 use Rattle.std.proofs.Common.{◌≡◌, ℕ, ◌+◌, ◌<◌, ◌≤◌, Bool, true, false, cond, List, [], ◌∷◌, ◌++◌, length, drop, get_or, Option, Some, None, refl, sym, ap, ◌∙◌}
-use Rattle.std.specs.Prelude.{All, IsSome, IsSomeAnd, find, not, is_some, slice_get, unwrap_or}
-use Rattle.std.specs.Option.{option_copied}
+use Rattle.std.specs.Prelude.{All, IsSomeAnd, find, not, is_some, slice_get, unwrap_or}
+use Rattle.std.specs.Option.{option_copied, option_map}
 use denote.Bor.{Bor}
 use Rattle.std.proofs.lemmas.List.{drop_all}
 use Rattle.std.proofs.lemmas.List.Elements.{All-nil, All-cons}
 use Rattle.priz_base.proofs.More.{drop_at, some_below}
 use Rattle.body_lang.specs.declared.body.Body.{Body}
+use Rattle.body_lang.specs.BodyTree.{BodyTree}
+use Rattle.body_lang.specs.View.{body_tree}
 use Rattle.statement_set.specs.declared.statement.Statement.{Statement}
 use Rattle.statement_set.specs.declared.subtask.Subtask.{Subtask}
 use Rattle.statement_set.specs.Problem.{Task, IsPlain}
 use Rattle.statement_set.proofs.Lists.{some_and, all_at}
 use Rattle.proof_term.specs.declared.step.Step.{Step}
-use Rattle.proof_term.specs.Proof.{Steps, done, step, Subs, no_more, known, block, proves, answers}
+use Rattle.proof_term.specs.Proof.{Subs, no_more, known, block, proves, answers}
 use Rattle.proof_term.specs.Plain.{subs_of, steps_of}
 use Rattle.priz_base.specs.Sets.{IsWithin}
 use Rattle.proof_term.specs.Bodies.{first_without_body, statements_in, statements_in_all, lacks_body}
@@ -41,12 +43,12 @@ module _ (p : Task) where
       (plain_steps plain (its.0.output ∷ S) R items its.2.2)
 
   -- whether the body of a statement is missing
-  pub lacks_is : (n : ℕ) (o : Option (Bor Body)) (r : Bool) → IsSomeAnd (slice_get p.statements n) (λ t. option_copied o ≡ t.body) → is_some o ≡ not r → lacks_body p n ≡ r
+  pub lacks_is : (n : ℕ) (o : Option (Bor Body)) (r : Bool) → IsSomeAnd (slice_get p.statements n) (λ t. option_map body_tree (option_copied o) ≡ t.body) → is_some o ≡ not r → lacks_body p n ≡ r
   lacks_is n o r its h =
-      let found = some_and (slice_get p.statements n) (λ t. option_copied o ≡ t.body) its in
+      let found = some_and (slice_get p.statements n) (λ t. option_map body_tree (option_copied o) ≡ t.body) its in
       ap (λ (s : Option Statement). not (is_some (unwrap_or s (record { inputs = []; subs = []; output = 0; body = None })).body)) found.1
-      ∙ ap (λ (b : Option Body). not (is_some b)) (sym found.2) ∙ by o r h where
-        by : (o : Option (Bor Body)) (r : Bool) → is_some o ≡ not r → not (is_some (option_copied o)) ≡ r
+      ∙ ap (λ (b : Option BodyTree). not (is_some b)) (sym found.2) ∙ by o r h where
+        by : (o : Option (Bor Body)) (r : Bool) → is_some o ≡ not r → not (is_some (option_map body_tree (option_copied o))) ≡ r
         by None true h = refl
         by None false h = absurd (cc)
         by (Some b) true h = absurd (cc)

@@ -6,9 +6,9 @@ use Rattle.priz_base.specs.Sets.{Adds, IsWithin}
 use Rattle.priz_base.proofs.More.{some_below}
 use Rattle.priz_base.proofs.Members.{contains_here, contains_there}
 use Rattle.statement_set.specs.declared.statement.Statement.{Statement}
-use Rattle.statement_set.specs.Problem.{Task, var_count, given_vars, AreVars, IsStatementOver, IsWellFormed, IsPlain}
+use Rattle.statement_set.specs.Problem.{Task, var_count, given_vars, AreVars, IsPlain}
 use Rattle.statement_set.specs.Countermodel.{IsCountermodelFrom}
-use Rattle.statement_set.proofs.Lists.{some_and, all_at, some_lacked}
+use Rattle.statement_set.proofs.Lists.{some_and, some_lacked}
 use Rattle.statement_set.proofs.Obeys.{one_world}
 use Rattle.proof_term.specs.Proof.{Steps, no_more, proves, push}
 use Rattle.proof_term.proofs.Pushes.{proves_fewer, proves_push}
@@ -41,9 +41,6 @@ module _ (p : Task) (known new : List ℕ) (n out : ℕ) (ready : ReadyAt p know
 
   output_is : out ≡ found.0.output
   output_is = subst (λ o. IsSomeAnd o (λ (t : Statement). out ≡ t.output)) found.1 is
-
-  pub output_below : IsWellFormed p → out < var_count p
-  output_below wf = subst (λ v. v < var_count p) (sym output_is) (all_at (IsStatementOver (var_count p)) p.statements n found.0 wf.statements found.1).output
 
   pub less : Adds known new out → left new p.statements < left known p.statements
   less adds =

@@ -17,7 +17,7 @@ use Rattle.answer_core.specs.declared.values.Values.{Values}
 use Rattle.answer_core.specs.declared.values.Values.TheVariants as values
 use Rattle.std.specs.Prelude.{slice_get}
 use Rattle.std.proofs.lemmas.Option.{get_or_from_slice_get}
-use Rattle.answer_core.specs.Named.{HasNames}
+use Rattle.answer_core.specs.steps.Named.{HasNames}
 use Rattle.answer_core.specs.Report.{value_line, value_lines}
 use Rattle.answer_core.specs.Values.{first_without_number, AreNumbers, IsValues}
 

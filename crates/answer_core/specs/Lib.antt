@@ -1,6 +1,5 @@
 pub mod Answers
-pub mod Found
-pub mod Named
 pub mod Report
 pub mod Values
 pub mod Wordings
+pub mod steps

@@ -2,7 +2,7 @@ ghost use Rattle.std.specs.Prelude.{◌≡◌, ◌≤◌, [], ◌∷◌, ◌++�
 ghost use Rattle.answer_core.specs.declared.effort.Effort.{Effort};
 ghost use Rattle.answer_core.specs.Answers.{IsAnswer};
 ghost use Rattle.answer_core.specs.Report.{head_text, value_line, value_lines, fault_line, values_text, answer_text};
-ghost use Rattle.answer_core.specs.Named.{HasNames};
+ghost use Rattle.answer_core.specs.steps.Named.{HasNames};
 
 use crate::wording::{fault_text, separate_text};
 use crate::{Answer, Values};
@@ -72,7 +72,6 @@ fn write_all_values(problem: &Problem, values: &[Frac], out: &mut Vec<u8>) -> Re
     requires { length values.now ≡ length problem.now.wants }
     ensures { OnOk result (out.new.items ≡ out.old.items ++ value_lines problem.now problem.now.wants values.now) }
 {
-    problem.is_well_formed();
     for (i, want) in problem.wants().iter().enumerate() {
         write_value(problem.name(*want), values[i], out)?;
     }

@@ -2,7 +2,7 @@ ghost use Rattle.std.specs.Prelude.{◌≡◌, ◌<◌, ◌≤◌, ℕ, ◌↔�
 ghost use Rattle.priz_base.specs.Sets.{IsWithin};
 ghost use Rattle.statement_set.specs.Problem.{given_vars, AreVars, var_count, IsPlain};
 ghost use Rattle.statement_set.specs.Countermodel.{IsCountermodel, RefutesAlone};
-ghost use Rattle.answer_core.specs.Found.{IsFound};
+ghost use Rattle.answer_core.specs.steps.Found.{IsFound};
 
 use kripke_check::Worlds;
 use priz_base::{NoMem, Var, VarSet};
@@ -24,7 +24,6 @@ pub(crate) fn search(alloc: Global, problem: &Problem) -> Result<Found, NoMem>
     requires { IsPlain problem.now }
     ensures { IfOk result (IsFound problem.now) }
 {
-    problem.is_well_formed();
     let wanted = set_of(problem.wants());
     let mut closure = Closure::new(alloc, problem)?;
     learn_givens(problem, &mut closure);
@@ -58,8 +57,8 @@ fn learn_givens(problem: &Problem, closure: &mut Closure)
     requires nothing { closure.old.known ≡ [] }
     ensures task { closure.new.task ≡ problem.now }
     ensures known { (n : ℕ) → Contains closure.new.known n ↔ Contains (given_vars problem.now) n }
+    ensures vars { AreVars (var_count problem.now) closure.new.known }
 {
-    problem.is_well_formed();
     for given in problem.givens() {
         closure.learn(given.var);
     }

@@ -1,5 +1,5 @@
 -- The trees of the nodes of a body.
-use Rattle.std.proofs.Common.{◌≡◌, ℕ, sym, ap, ◌∙◌}
+use Rattle.std.proofs.Common.{◌≡◌, ℕ, List, sym, ap, ◌∙◌}
 use Rattle.priz_frac.specs.Ratio.{Ratio}
 use Rattle.body_lang.specs.declared.op.Op.{Op}
 use Rattle.body_lang.specs.declared.cmp.Cmp.{Cmp}
@@ -8,8 +8,8 @@ use Rattle.body_lang.specs.declared.body.Body.TheViews as views
 use Rattle.body_lang.specs.declared.body.Body.TheVariants as variants
 use Rattle.body_lang.specs.declared.body.Body.TheFolds.{fold-roll-Body}
 use Rattle.body_lang.specs.declared.body.Body.TheOpen.{Body-F}
-use Rattle.body_lang.specs.BodyTree.{BodyTree, num, input, local, neg, op, choice, total, product, iterate}
-use Rattle.body_lang.specs.View.{body_node, body_tree}
+use Rattle.body_lang.specs.BodyTree.{BodyTree, num, input, local, neg, op, choice, total, product, iterate, call}
+use Rattle.body_lang.specs.View.{body_node, body_tree, body_trees}
 
 -- a number
 pub num_tree : (r : Ratio) → body_tree (variants.Num r) ≡ num r
@@ -46,3 +46,7 @@ product_tree a b e = ap body_tree (sym (variants.rolls-Prod a b e)) ∙ fold-rol
 -- a part that is repeated
 pub iterate_tree : (a b e : Body) → body_tree (views.Iter a b e) ≡ iterate (body_tree a) (body_tree b) (body_tree e)
 iterate_tree a b e = ap body_tree (sym (variants.rolls-Iter a b e)) ∙ fold-roll-Body BodyTree body_node (Body-F.Iter a b e)
+
+-- a call
+pub call_tree : (k out : ℕ) (args : List Body) → body_tree (views.Call k out args) ≡ call k out (body_trees args)
+call_tree k out args = ap body_tree (sym (variants.rolls-Call k out args)) ∙ fold-roll-Body BodyTree body_node (Body-F.Call k out args)

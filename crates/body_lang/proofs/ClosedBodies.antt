@@ -1,8 +1,9 @@
 -- A body passes the check just where all that it reads is there.
-use Rattle.std.proofs.Common.{◌≡◌, ◌<◌, ◌==◌, ℕ, suc, List, true, Option, Some, None, Ok, refl, ap, ◌∙◌, arith}
-use Rattle.std.specs.Prelude.{nat_lt, slice_get}
+use Rattle.std.proofs.Common.{◌≡◌, ◌<◌, ◌==◌, ℕ, suc, List, true, Option, Some, None, Ok, refl, sym, ap, ◌∙◌, arith}
+use Rattle.std.specs.Prelude.{nat_lt, slice_get, IsSomeAnd}
 use Rattle.std.proofs.lemmas.Bool.Decides.{nat_tests}
-use Rattle.body_lang.specs.declared.body_fault.BodyFault.TheVariants.{BadInput, BadLocal, BadArity}
+use Rattle.body_lang.specs.declared.body_fault.BodyFault.TheVariants.{BadInput, BadLocal, BadCall, BadArity}
+use Rattle.body_lang.specs.declared.arity.Arity.{Arity}
 use Rattle.body_lang.specs.BodyTree.{BodyTree, BodyTrees, num, input, local, neg, op, choice, total, product, iterate, call, none, more, count_of}
 use Rattle.body_lang.specs.Verdicts.{fault_unless}
 use Rattle.body_lang.specs.Checked.{checked, all_checked, call_checked}
@@ -25,16 +26,26 @@ same_number m n e = grind (arith, nat_tests)
 equal_to_itself : (n : ℕ) → (n == n) ≡ true
 equal_to_itself n = grind (arith, nat_tests)
 
--- a call that passes has as many arguments as its subtask has inputs
-is_called : (o : Option ℕ) (n : ℕ) → call_checked o n ≡ Ok tt → o ≡ Some n
-is_called None n e = absurd (cc)
-is_called (Some m) n e = ap Some (same_number n m (test_passes (n == m) BadArity e))
+-- the subtask has this output, and so many inputs
+abbrev IsCalled : Option Arity → ℕ → ℕ → Type 0
+IsCalled o out count = IsSomeAnd o (λ a. (out < a.outputs) × (count ≡ a.inputs))
 
--- a call that has as many passes
-call_passes : (o : Option ℕ) (n : ℕ) → o ≡ Some n → call_checked o n ≡ Ok tt
-call_passes o n e = ap (λ p. call_checked p n) e ∙ ap (λ b. fault_unless b BadArity) (equal_to_itself n)
+-- a call that passes asks for what is there
+is_called : (o : Option Arity) (out count : ℕ) → call_checked o out count ≡ Ok tt → IsCalled o out count
+is_called None out count e = absurd (cc)
+is_called (Some a) out count e = (
+  is_below out a.outputs (test_passes (nat_lt out a.outputs) BadCall (first_passes _ _ e)),
+  sym (same_number count a.inputs (test_passes (count == a.inputs) BadArity (second_passes _ _ e))),
+)
 
-module _ (n : ℕ) (arities : List ℕ) where
+-- a call that asks for what is there passes
+call_passes : (o : Option Arity) (out count : ℕ) → IsCalled o out count → call_checked o out count ≡ Ok tt
+call_passes None out count h = absurd h
+call_passes (Some a) out count h =
+    both_pass _ _ (ap (λ b. fault_unless b BadCall) (below_passes out a.outputs h.0))
+    (ap (λ m. fault_unless (count == m) BadArity) (sym h.1) ∙ ap (λ b. fault_unless b BadArity) (equal_to_itself count))
+
+module _ (n : ℕ) (arities : List Arity) where
   mutual
     -- a body that passes reads what is there
     pub closed : (loops : ℕ) (t : BodyTree) → checked n arities loops t ≡ Ok tt → IsClosed n arities loops t
@@ -56,7 +67,8 @@ module _ (n : ℕ) (arities : List ℕ) where
     closed loops (iterate a b e) h =
         let after = second_passes _ _ h in
         (closed loops a (first_passes _ _ h), closed loops b (first_passes _ _ after), closed (suc loops) e (second_passes _ _ after))
-    closed loops (call k args) h = (is_called (slice_get arities k) (count_of args) (first_passes _ _ h), all_closed loops args (second_passes _ _ h))
+    closed loops (call k out args) h =
+        (is_called (slice_get arities k) out (count_of args) (first_passes _ _ h), all_closed loops args (second_passes _ _ h))
 
     -- so do arguments that pass
     all_closed : (loops : ℕ) (args : BodyTrees) → all_checked n arities loops args ≡ Ok tt → AreClosed n arities loops args
@@ -76,7 +88,7 @@ module _ (n : ℕ) (arities : List ℕ) where
     passes loops (total a b e) h = both_pass _ _ (passes loops a h.0) (both_pass _ _ (passes loops b h.1) (passes (suc loops) e h.2))
     passes loops (product a b e) h = both_pass _ _ (passes loops a h.0) (both_pass _ _ (passes loops b h.1) (passes (suc loops) e h.2))
     passes loops (iterate a b e) h = both_pass _ _ (passes loops a h.0) (both_pass _ _ (passes loops b h.1) (passes (suc loops) e h.2))
-    passes loops (call k args) h = both_pass _ _ (call_passes (slice_get arities k) (count_of args) h.0) (all_pass loops args h.1)
+    passes loops (call k out args) h = both_pass _ _ (call_passes (slice_get arities k) out (count_of args) h.0) (all_pass loops args h.1)
 
     -- so do arguments that read what is there
     all_pass : (loops : ℕ) (args : BodyTrees) → AreClosed n arities loops args → all_checked n arities loops args ≡ Ok tt

@@ -90,12 +90,12 @@ module _ (Lacks : Type 0) where
     round_follows x zero = stopped _ _
     round_follows x (suc t) = h x t
 
-    rounds_follow : (o : Op) (n : ℕ) (i : ℤ) (x : Ratio) (t : ℕ) → FollowsUnless (rounds narrowly owner o each n i x t) (rounds exactly owner o each1 n i x)
+    rounds_follow : (o : Op) (n : ℕ) (i : ℤ) (x : Ratio) (t : ℕ) → FollowsUnless (rounds narrowly owner each o n i x t) (rounds exactly owner each1 o n i x)
     rounds_follow o zero i x t = here x t
     rounds_follow o (suc n) i x t =
         then_follows _ _ _ _ (round_follows (whole i) t) (λ v t1. then_follows _ _ _ _ (operation_follows owner t1 o x v) (λ y t2. rounds_follow o n (i +ℤ pos 1) y t2))
 
-    between_follow : (o : Op) (start : Ratio) (a b : Option ℤ) (t : ℕ) → FollowsUnless (rounds_between narrowly owner o start each a b t) (rounds_between exactly owner o start each1 a b)
+    between_follow : (o : Op) (start : Ratio) (a b : Option ℤ) (t : ℕ) → FollowsUnless (rounds_between narrowly owner each o start a b t) (rounds_between exactly owner each1 o start a b)
     between_follow o start None b t = stopped _ _
     between_follow o start (Some a) None t = stopped _ _
     between_follow o start (Some a) (Some b) t = rounds_follow o (round_count a b) a start t
@@ -110,31 +110,31 @@ module _ (Lacks : Type 0) where
     times_follow x (Some (pos n)) t = replacements_follow n x t
     times_follow x (Some (negsuc n)) t = stopped _ _
 
-  module _ (owner : ℕ) (f g : Calls) (calls : (k : ℕ) (vs : List Ratio) (t : ℕ) → FollowsUnless (f k vs t) (g k vs)) where
+  module _ (owner : ℕ) (f g : Calls) (calls : (k out : ℕ) (vs : List Ratio) (t : ℕ) → FollowsUnless (f k out vs t) (g k out vs)) (ins : List Ratio) where
     mutual
-      pub mean_follows : (b : BodyTree) (ins locs : List Ratio) (t : ℕ) → FollowsUnless (mean narrowly owner f b ins locs t) (mean exactly owner g b ins locs)
-      mean_follows (num v) ins locs t = here v t
-      mean_follows (input i) ins locs t = here (value_at ins i) t
-      mean_follows (local j) ins locs t = here (value_at locs j) t
-      mean_follows (neg a) ins locs t =
-          then_follows _ _ _ _ (mean_follows a ins locs t) (λ x t1. here (negative_of x) t1)
-      mean_follows (op o a b) ins locs t =
-          both_follow _ _ _ _ _ _ (mean_follows a ins locs t) (λ t1. mean_follows b ins locs t1) (λ x y t2. operation_follows owner t2 o x y)
-      mean_follows (choice c a b p q) ins locs t =
-          both_follow _ _ _ _ _ _ (mean_follows a ins locs t) (λ t1. mean_follows b ins locs t1) (λ x y t2. branch_follows (holds c x y) _ _ _ _ (mean_follows p ins locs t2) (mean_follows q ins locs t2))
-      mean_follows (total a b e) ins locs t =
-          both_follow _ _ _ _ _ _ (mean_follows a ins locs t) (λ t1. mean_follows b ins locs t1) (λ x y t2. between_follow owner _ _ (λ v t3. mean_follows e ins (locs ++ v ∷ []) t3) Add (whole (pos 0)) (whole_of x) (whole_of y) t2)
-      mean_follows (product a b e) ins locs t =
-          both_follow _ _ _ _ _ _ (mean_follows a ins locs t) (λ t1. mean_follows b ins locs t1) (λ x y t2. between_follow owner _ _ (λ v t3. mean_follows e ins (locs ++ v ∷ []) t3) Mul (whole (pos 1)) (whole_of x) (whole_of y) t2)
-      mean_follows (iterate a b e) ins locs t =
-          both_follow _ _ _ _ _ _ (mean_follows a ins locs t) (λ t1. mean_follows b ins locs t1) (λ x y t2. times_follow owner _ _ (λ v t3. mean_follows e ins (locs ++ v ∷ []) t3) x (whole_of y) t2)
-      mean_follows (call k args) ins locs t =
-          then_follows _ _ _ _ (all_follow args ins locs t) (λ vs t1. calls k vs t1)
+      pub mean_follows : (b : BodyTree) (locs : List Ratio) (t : ℕ) → FollowsUnless (mean narrowly owner f ins b locs t) (mean exactly owner g ins b locs)
+      mean_follows (num v) locs t = here v t
+      mean_follows (input i) locs t = here (value_at ins i) t
+      mean_follows (local j) locs t = here (value_at locs j) t
+      mean_follows (neg a) locs t =
+          then_follows _ _ _ _ (mean_follows a locs t) (λ x t1. here (negative_of x) t1)
+      mean_follows (op o a b) locs t =
+          both_follow _ _ _ _ _ _ (mean_follows a locs t) (λ t1. mean_follows b locs t1) (λ x y t2. operation_follows owner t2 o x y)
+      mean_follows (choice c a b p q) locs t =
+          both_follow _ _ _ _ _ _ (mean_follows a locs t) (λ t1. mean_follows b locs t1) (λ x y t2. branch_follows (holds c x y) _ _ _ _ (mean_follows p locs t2) (mean_follows q locs t2))
+      mean_follows (total a b e) locs t =
+          both_follow _ _ _ _ _ _ (mean_follows a locs t) (λ t1. mean_follows b locs t1) (λ x y t2. between_follow owner _ _ (λ v t3. mean_follows e (locs ++ v ∷ []) t3) Add (whole (pos 0)) (whole_of x) (whole_of y) t2)
+      mean_follows (product a b e) locs t =
+          both_follow _ _ _ _ _ _ (mean_follows a locs t) (λ t1. mean_follows b locs t1) (λ x y t2. between_follow owner _ _ (λ v t3. mean_follows e (locs ++ v ∷ []) t3) Mul (whole (pos 1)) (whole_of x) (whole_of y) t2)
+      mean_follows (iterate a b e) locs t =
+          both_follow _ _ _ _ _ _ (mean_follows a locs t) (λ t1. mean_follows b locs t1) (λ x y t2. times_follow owner _ _ (λ v t3. mean_follows e (locs ++ v ∷ []) t3) x (whole_of y) t2)
+      mean_follows (call k out args) locs t =
+          then_follows _ _ _ _ (all_follow args locs t) (λ vs t1. calls k out vs t1)
 
-      all_follow : (args : BodyTrees) (ins locs : List Ratio) (t : ℕ) → FollowsUnless (mean_all narrowly owner f args ins locs t) (mean_all exactly owner g args ins locs)
-      all_follow none ins locs t = here [] t
-      all_follow (more a rest) ins locs t =
-          then_follows _ _ _ _ (mean_follows a ins locs t) (λ v t1. then_follows _ _ _ _ (all_follow rest ins locs t1) (λ vs t2. here (v ∷ vs) t2))
+      all_follow : (args : BodyTrees) (locs : List Ratio) (t : ℕ) → FollowsUnless (mean_all narrowly owner f ins args locs t) (mean_all exactly owner g ins args locs)
+      all_follow none locs t = here [] t
+      all_follow (more a rest) locs t =
+          then_follows _ _ _ _ (mean_follows a locs t) (λ v t1. then_follows _ _ _ _ (all_follow rest locs t1) (λ vs t2. here (v ∷ vs) t2))
 
 -- where nothing is lacking
 only_value : {A : Type 0} (r : Result (A × ℕ) Stop) (v : A) (u : ℕ) → Ends ⊥ r v u → r ≡ Ok (v, u)
@@ -149,10 +149,10 @@ from_either : {A : Type 0} (r : Result (A × ℕ) Stop) (v : A) (u : ℕ) → (r
 from_either r v u (inl e) = inl (tt, e)
 from_either r v u (inr e) = inr e
 
-pub exact_follows : (owner : ℕ) (f g : Calls) → CallsFollow f g → (b : BodyTree) (ins locs : List Ratio) (t : ℕ) → RunFollows (mean narrowly owner f b ins locs t) (mean exactly owner g b ins locs)
-exact_follows owner f g h b ins locs t v t1 u e =
-    only_value _ v u (mean_follows ⊥ owner f g (λ k vs t2 x t3 u1 e1. inr (h k vs t2 x t3 u1 e1)) b ins locs t v t1 u e)
+pub exact_follows : (owner : ℕ) (f g : Calls) → CallsFollow f g → (ins : List Ratio) (b : BodyTree) (locs : List Ratio) (t : ℕ) → RunFollows (mean narrowly owner f ins b locs t) (mean exactly owner g ins b locs)
+exact_follows owner f g h ins b locs t v t1 u e =
+    only_value _ v u (mean_follows ⊥ owner f g (λ k out vs t2 x t3 u1 e1. inr (h k out vs t2 x t3 u1 e1)) ins b locs t v t1 u e)
 
-pub exact_follows_on_rows : (owner : ℕ) (f g : Calls) → CallsFollowOnRows f g → (b : BodyTree) (ins locs : List Ratio) (t : ℕ) → RunFollowsOnRows (mean narrowly owner f b ins locs t) (mean exactly owner g b ins locs)
-exact_follows_on_rows owner f g h b ins locs t v t1 u e =
-    either_end _ v u (mean_follows (Unit {0}) owner f g (λ k vs t2 x t3 u1 e1. from_either _ x u1 (h k vs t2 x t3 u1 e1)) b ins locs t v t1 u e)
+pub exact_follows_on_rows : (owner : ℕ) (f g : Calls) → CallsFollowOnRows f g → (ins : List Ratio) (b : BodyTree) (locs : List Ratio) (t : ℕ) → RunFollowsOnRows (mean narrowly owner f ins b locs t) (mean exactly owner g ins b locs)
+exact_follows_on_rows owner f g h ins b locs t v t1 u e =
+    either_end _ v u (mean_follows (Unit {0}) owner f g (λ k out vs t2 x t3 u1 e1. from_either _ x u1 (h k out vs t2 x t3 u1 e1)) ins b locs t v t1 u e)

@@ -10,7 +10,7 @@ use Rattle.priz_frac.specs.declared.fault.FracFault.{FracFault}
 use Rattle.body_lang.specs.declared.op.Op.{Op}
 use Rattle.body_lang.specs.declared.op.Op.TheVariants.{Add, Mul}
 use Rattle.body_lang.specs.BodyTree.{BodyTree, BodyTrees, num, input, local, neg, op, choice, total, product, iterate, call, none, more}
-use Rattle.body_lang.specs.Keeping.{NumbersHave, AllNumbersHave, EndsIn, AnswersKeep, MeaningKeeps}
+use Rattle.body_lang.specs.Keeping.{NumbersHave, AllNumbersHave, EndsIn, CallsKeep, MeaningKeeps}
 use Rattle.body_lang.specs.Meaning.{Calls, mean, mean_all}
 use Rattle.body_lang.specs.Precision.{Precision, narrowly, exactly}
 use Rattle.body_lang.specs.Operation.{operate, as_run, holds}
@@ -78,14 +78,14 @@ module _ (P : Ratio → Type 0) (precision : Precision) (kept : IsKept P precisi
     round_ends narrowly x (suc t) p = h x t p
     round_ends exactly x t p = h x t p
 
-    rounds_end : (o : Op) (n : ℕ) (i : ℤ) (x : Ratio) (t : ℕ) → ((j : ℕ) → j < n → P (whole (i +ℤ pos j))) → P x → EndsIn P (rounds precision owner o each n i x t)
+    rounds_end : (o : Op) (n : ℕ) (i : ℤ) (x : Ratio) (t : ℕ) → ((j : ℕ) → j < n → P (whole (i +ℤ pos j))) → P x → EndsIn P (rounds precision owner each o n i x t)
     rounds_end o zero i x t k p = p
     rounds_end o (suc n) i x t k p =
         then_ends P (one_round precision owner each (whole i) t) _ (round_ends precision (whole i) t (subst (λ z. P (whole z)) (first_whole i) (k 0 (omega arith))))
         (λ v u q. then_ends P (as_run owner u (operate precision o x v)) _ (operation_ends owner u o x v p q)
         (λ y w r. rounds_end o n (i +ℤ pos 1) y w (λ j l. subst (λ z. P (whole z)) (sym (next_whole i j)) (k (suc j) (omega arith))) r))
 
-    between_end : (o : Op) (start : Ratio) (a b : Option ℤ) (t : ℕ) → ((x y : ℤ) → a ≡ Some x → b ≡ Some y → (j : ℕ) → j < round_count x y → P (whole (x +ℤ pos j))) → P start → EndsIn P (rounds_between precision owner o start each a b t)
+    between_end : (o : Op) (start : Ratio) (a b : Option ℤ) (t : ℕ) → ((x y : ℤ) → a ≡ Some x → b ≡ Some y → (j : ℕ) → j < round_count x y → P (whole (x +ℤ pos j))) → P start → EndsIn P (rounds_between precision owner each o start a b t)
     between_end o start None b t k p = tt
     between_end o start (Some a) None t k p = tt
     between_end o start (Some a) (Some b) t k p = rounds_end o (round_count a b) a start t (k a b refl refl) p
@@ -100,34 +100,34 @@ module _ (P : Ratio → Type 0) (precision : Precision) (kept : IsKept P precisi
     times_end x (Some (pos n)) t p = replacements_end n x t p
     times_end x (Some (negsuc n)) t p = tt
 
-  module _ (owner : ℕ) (answer : Calls) (calls : AnswersKeep P answer) where
+  module _ (owner : ℕ) (calls : Calls) (keep : CallsKeep P calls) (ins : List Ratio) (h : All P ins) where
     mutual
-      mean_ends : (b : BodyTree) → NumbersHave P b → (ins locs : List Ratio) → All P ins → All P locs → (t : ℕ) → EndsIn P (mean precision owner answer b ins locs t)
-      mean_ends (num v) n ins locs h k t = n
-      mean_ends (input i) n ins locs h k t = value_keeps ins i h
-      mean_ends (local j) n ins locs h k t = value_keeps locs j k
-      mean_ends (neg a) n ins locs h k t =
-          then_ends P (mean precision owner answer a ins locs t) _ (mean_ends a n ins locs h k t) (λ x u p. kept.negative x p)
-      mean_ends (op o a b) n ins locs h k t =
-          both_end _ _ _ (mean_ends a n.0 ins locs h k t) (λ u. mean_ends b n.1 ins locs h k u) (λ x y u p q. operation_ends owner u o x y p q)
-      mean_ends (choice c a b d e) n ins locs h k t =
-          both_end _ _ _ (mean_ends a n.0 ins locs h k t) (λ u. mean_ends b n.1 ins locs h k u) (λ x y u p q. branch_ends (holds c x y) _ _ (mean_ends d n.2 ins locs h k u) (mean_ends e n.3 ins locs h k u))
-      mean_ends (total a b e) n ins locs h k t =
-          both_end _ _ _ (mean_ends a n.0 ins locs h k t) (λ u. mean_ends b n.1 ins locs h k u)
-          (λ x y u p q. between_end owner _ (λ v w r. mean_ends e n.2 ins (locs ++ v ∷ []) h (grown locs v k r) w) Add (whole (pos 0)) (whole_of x) (whole_of y) u (λ f g. kept.between x y f g p q) kept.nought)
-      mean_ends (product a b e) n ins locs h k t =
-          both_end _ _ _ (mean_ends a n.0 ins locs h k t) (λ u. mean_ends b n.1 ins locs h k u)
-          (λ x y u p q. between_end owner _ (λ v w r. mean_ends e n.2 ins (locs ++ v ∷ []) h (grown locs v k r) w) Mul (whole (pos 1)) (whole_of x) (whole_of y) u (λ f g. kept.between x y f g p q) kept.one)
-      mean_ends (iterate a b e) n ins locs h k t =
-          both_end _ _ _ (mean_ends a n.0 ins locs h k t) (λ u. mean_ends b n.1 ins locs h k u)
-          (λ x y u p q. times_end owner _ (λ v w r. mean_ends e n.2 ins (locs ++ v ∷ []) h (grown locs v k r) w) x (whole_of y) u p)
-      mean_ends (call i args) n ins locs h k t =
-          then_ends (All P) (mean_all precision owner answer args ins locs t) _ (all_end args n ins locs h k t) (λ vs u p. calls i vs u p)
+      mean_ends : (b : BodyTree) → NumbersHave P b → (locs : List Ratio) → All P locs → (t : ℕ) → EndsIn P (mean precision owner calls ins b locs t)
+      mean_ends (num v) n locs k t = n
+      mean_ends (input i) n locs k t = value_keeps ins i h
+      mean_ends (local j) n locs k t = value_keeps locs j k
+      mean_ends (neg a) n locs k t =
+          then_ends P (mean precision owner calls ins a locs t) _ (mean_ends a n locs k t) (λ x u p. kept.negative x p)
+      mean_ends (op o a b) n locs k t =
+          both_end _ _ _ (mean_ends a n.0 locs k t) (λ u. mean_ends b n.1 locs k u) (λ x y u p q. operation_ends owner u o x y p q)
+      mean_ends (choice c a b d e) n locs k t =
+          both_end _ _ _ (mean_ends a n.0 locs k t) (λ u. mean_ends b n.1 locs k u) (λ x y u p q. branch_ends (holds c x y) _ _ (mean_ends d n.2 locs k u) (mean_ends e n.3 locs k u))
+      mean_ends (total a b e) n locs k t =
+          both_end _ _ _ (mean_ends a n.0 locs k t) (λ u. mean_ends b n.1 locs k u)
+          (λ x y u p q. between_end owner _ (λ v w r. mean_ends e n.2 (locs ++ v ∷ []) (grown locs v k r) w) Add (whole (pos 0)) (whole_of x) (whole_of y) u (λ f g. kept.between x y f g p q) kept.nought)
+      mean_ends (product a b e) n locs k t =
+          both_end _ _ _ (mean_ends a n.0 locs k t) (λ u. mean_ends b n.1 locs k u)
+          (λ x y u p q. between_end owner _ (λ v w r. mean_ends e n.2 (locs ++ v ∷ []) (grown locs v k r) w) Mul (whole (pos 1)) (whole_of x) (whole_of y) u (λ f g. kept.between x y f g p q) kept.one)
+      mean_ends (iterate a b e) n locs k t =
+          both_end _ _ _ (mean_ends a n.0 locs k t) (λ u. mean_ends b n.1 locs k u)
+          (λ x y u p q. times_end owner _ (λ v w r. mean_ends e n.2 (locs ++ v ∷ []) (grown locs v k r) w) x (whole_of y) u p)
+      mean_ends (call i out args) n locs k t =
+          then_ends (All P) (mean_all precision owner calls ins args locs t) _ (all_end args n locs k t) (λ vs u p. keep i out vs u p)
 
-      all_end : (args : BodyTrees) → AllNumbersHave P args → (ins locs : List Ratio) → All P ins → All P locs → (t : ℕ) → IfOk (mean_all precision owner answer args ins locs t) (λ end. All P end.0)
-      all_end none n ins locs h k t = All-nil P
-      all_end (more a rest) n ins locs h k t =
-          cons_ends (mean precision owner answer a ins locs t) (λ u. mean_all precision owner answer rest ins locs u) (mean_ends a n.0 ins locs h k t) (λ u. all_end rest n.1 ins locs h k u)
+      all_end : (args : BodyTrees) → AllNumbersHave P args → (locs : List Ratio) → All P locs → (t : ℕ) → IfOk (mean_all precision owner calls ins args locs t) (λ end. All P end.0)
+      all_end none n locs k t = All-nil P
+      all_end (more a rest) n locs k t =
+          cons_ends (mean precision owner calls ins a locs t) (λ u. mean_all precision owner calls ins rest locs u) (mean_ends a n.0 locs k t) (λ u. all_end rest n.1 locs k u)
 
   pub meaning_keeps : MeaningKeeps P precision
-  meaning_keeps owner answer calls b n ins locs h k t = mean_ends owner answer calls b n ins locs h k t
+  meaning_keeps owner calls keep ins h b n locs k t = mean_ends owner calls keep ins h b n locs k t

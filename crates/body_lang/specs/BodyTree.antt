@@ -5,7 +5,7 @@ use Rattle.body_lang.specs.declared.op.Op.{Op}
 use Rattle.body_lang.specs.declared.cmp.Cmp.{Cmp}
 
 mutual
-  -- a body; a loop has its two bounds, and the part that it repeats
+  -- a body; a loop has its two bounds, and the part that it repeats; a call has the numbers of a subtask and of its output
   pub data BodyTree : Type 0 where
     num : Ratio → BodyTree
     input : ℕ → BodyTree
@@ -16,7 +16,7 @@ mutual
     total : BodyTree → BodyTree → BodyTree → BodyTree
     product : BodyTree → BodyTree → BodyTree → BodyTree
     iterate : BodyTree → BodyTree → BodyTree → BodyTree
-    call : ℕ → BodyTrees → BodyTree
+    call : (k out : ℕ) (args : BodyTrees) → BodyTree
 
   -- the arguments of a call
   pub data BodyTrees : Type 0 where

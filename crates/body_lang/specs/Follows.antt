@@ -16,9 +16,10 @@ RunFollowsOnRows {A} narrow exact =
 -- the answers of exact runs follow those of narrow runs
 abbrev pub CallsFollow : Calls → Calls → Type 0
 CallsFollow narrow exact =
-    (k : ℕ) (arguments : List Ratio) (t : ℕ) → RunFollows (narrow k arguments t) (λ u. exact k arguments u)
+    (k out : ℕ) (arguments : List Ratio) (t : ℕ) → RunFollows (narrow k out arguments t) (λ u. exact k out arguments u)
 
 -- the same, unless there is no row for them
 abbrev pub CallsFollowOnRows : Calls → Calls → Type 0
 CallsFollowOnRows narrow exact =
-    (k : ℕ) (arguments : List Ratio) (t : ℕ) → RunFollowsOnRows (narrow k arguments t) (λ u. exact k arguments u)
+    (k out : ℕ) (arguments : List Ratio) (t : ℕ)
+    → RunFollowsOnRows (narrow k out arguments t) (λ u. exact k out arguments u)

@@ -6,36 +6,37 @@ use Rattle.body_lang.specs.Meaning.{Calls, mean}
 use Rattle.body_lang.specs.Precision.{Precision}
 use Rattle.body_lang.specs.Run.{Ran}
 
-abbrev mutual
-  -- each number of a body has the property
-  pub NumbersHave : (Ratio → Type 0) → BodyTree → Type 0
-  NumbersHave P (num v) = P v
-  NumbersHave P (input i) = ⊤
-  NumbersHave P (local j) = ⊤
-  NumbersHave P (neg a) = NumbersHave P a
-  NumbersHave P (op o a b) = NumbersHave P a × NumbersHave P b
-  NumbersHave P (choice c a b p q) = NumbersHave P a × NumbersHave P b × NumbersHave P p × NumbersHave P q
-  NumbersHave P (total a b e) = NumbersHave P a × NumbersHave P b × NumbersHave P e
-  NumbersHave P (product a b e) = NumbersHave P a × NumbersHave P b × NumbersHave P e
-  NumbersHave P (iterate a b e) = NumbersHave P a × NumbersHave P b × NumbersHave P e
-  NumbersHave P (call k args) = AllNumbersHave P args
+module _ (P : Ratio → Type 0) where
+  abbrev mutual
+    -- each number of a body has the property
+    pub NumbersHave : BodyTree → Type 0
+    NumbersHave (num v) = P v
+    NumbersHave (input i) = ⊤
+    NumbersHave (local j) = ⊤
+    NumbersHave (neg a) = NumbersHave a
+    NumbersHave (op o a b) = NumbersHave a × NumbersHave b
+    NumbersHave (choice c a b p q) = NumbersHave a × NumbersHave b × NumbersHave p × NumbersHave q
+    NumbersHave (total a b e) = NumbersHave a × NumbersHave b × NumbersHave e
+    NumbersHave (product a b e) = NumbersHave a × NumbersHave b × NumbersHave e
+    NumbersHave (iterate a b e) = NumbersHave a × NumbersHave b × NumbersHave e
+    NumbersHave (call k out args) = AllNumbersHave args
 
-  -- each number of a call's arguments has the property
-  pub AllNumbersHave : (Ratio → Type 0) → BodyTrees → Type 0
-  AllNumbersHave P none = ⊤
-  AllNumbersHave P (more a rest) = NumbersHave P a × AllNumbersHave P rest
+    -- each number of a call's arguments has the property
+    pub AllNumbersHave : BodyTrees → Type 0
+    AllNumbersHave none = ⊤
+    AllNumbersHave (more a rest) = NumbersHave a × AllNumbersHave rest
 
--- the value, where the run ends in one, has the property
-abbrev pub EndsIn : (Ratio → Type 0) → Ran → Type 0
-EndsIn P r = IfOk r (λ end. P end.0)
+  -- the value, where the run ends in one, has the property
+  abbrev pub EndsIn : Ran → Type 0
+  EndsIn r = IfOk r (λ end. P end.0)
 
--- arguments that have the property are answered by such values
-abbrev pub AnswersKeep : (Ratio → Type 0) → Calls → Type 0
-AnswersKeep P answer = (k : ℕ) (arguments : List Ratio) (turns : ℕ) → All P arguments → EndsIn P (answer k arguments turns)
+  -- arguments that have the property are answered by such values
+  abbrev pub CallsKeep : Calls → Type 0
+  CallsKeep calls = (k out : ℕ) (arguments : List Ratio) (turns : ℕ) → All P arguments → EndsIn (calls k out arguments turns)
 
--- where numbers, inputs, locals and answers have the property, so has the value of a body
-abbrev pub MeaningKeeps : (Ratio → Type 0) → Precision → Type 0
-MeaningKeeps P precision =
-    (owner : ℕ) (answer : Calls) → AnswersKeep P answer → (body : BodyTree) → NumbersHave P body
-    → (inputs locals : List Ratio) → All P inputs → All P locals
-    → (turns : ℕ) → EndsIn P (mean precision owner answer body inputs locals turns)
+  -- where numbers, inputs, locals and answers have the property, so has the value of a body
+  abbrev pub MeaningKeeps : Precision → Type 0
+  MeaningKeeps precision =
+      (owner : ℕ) (calls : Calls) → CallsKeep calls → (inputs : List Ratio) → All P inputs
+      → (body : BodyTree) → NumbersHave body → (locals : List Ratio) → All P locals
+      → (turns : ℕ) → EndsIn (mean precision owner calls inputs body locals turns)

@@ -1,4 +1,5 @@
 pub mod BodyTree
+pub mod Equations
 pub mod View
 pub mod Verdicts
 pub mod Checked
@@ -16,3 +17,4 @@ pub mod Sample
 pub mod OperationExamples
 pub mod LoopExamples
 pub mod CallExamples
+pub mod steps

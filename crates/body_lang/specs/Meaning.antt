@@ -12,40 +12,42 @@ use Rattle.body_lang.specs.Run.{Ran, then_with, then_both}
 use Rattle.body_lang.specs.Stop.{Stop}
 use Rattle.body_lang.specs.Values.{value_at}
 
--- what a call of the subtask of this number gives for its arguments, with so many turns left
+-- what a call gives, with so many turns left, of the subtask and the output of these numbers, for its arguments
 abbrev pub Calls : Type 0
-Calls = ℕ → List Ratio → ℕ → Ran
+Calls = (k out : ℕ) → List Ratio → ℕ → Ran
 
-abbrev mutual
-  -- a body of the statement `owner`: its calls are answered by `answer`, its inputs and the variables of
-  -- its enclosing loops, outermost first, have these values in lowest terms, and so many turns are left
-  pub mean : Precision → ℕ → Calls → BodyTree → List Ratio → List Ratio → ℕ → Ran
-  mean precision owner answer (num v) inputs locals turns = Ok (v, turns)
-  mean precision owner answer (input i) inputs locals turns = Ok (value_at inputs i, turns)
-  mean precision owner answer (local j) inputs locals turns = Ok (value_at locals j, turns)
-  mean precision owner answer (neg a) inputs locals turns =
-      then_with (mean precision owner answer a inputs locals turns) (λ x left. Ok (negative_of x, left))
-  mean precision owner answer (op o a b) inputs locals turns =
-      then_both (mean precision owner answer a inputs locals turns) (λ left. mean precision owner answer b inputs locals left)
-      (λ x y left. as_run owner left (operate precision o x y))
-  mean precision owner answer (choice c a b p q) inputs locals turns =
-      then_both (mean precision owner answer a inputs locals turns) (λ left. mean precision owner answer b inputs locals left)
-      (λ x y left. if holds c x y then mean precision owner answer p inputs locals left else mean precision owner answer q inputs locals left)
-  mean precision owner answer (total a b e) inputs locals turns =
-      then_both (mean precision owner answer a inputs locals turns) (λ left. mean precision owner answer b inputs locals left)
-      (λ x y left. rounds_between precision owner Add (whole (pos 0)) (λ v rest. mean precision owner answer e inputs (locals ++ v ∷ []) rest) (whole_of x) (whole_of y) left)
-  mean precision owner answer (product a b e) inputs locals turns =
-      then_both (mean precision owner answer a inputs locals turns) (λ left. mean precision owner answer b inputs locals left)
-      (λ x y left. rounds_between precision owner Mul (whole (pos 1)) (λ v rest. mean precision owner answer e inputs (locals ++ v ∷ []) rest) (whole_of x) (whole_of y) left)
-  mean precision owner answer (iterate a b e) inputs locals turns =
-      then_both (mean precision owner answer a inputs locals turns) (λ left. mean precision owner answer b inputs locals left)
-      (λ x y left. replacements_for precision owner (λ v rest. mean precision owner answer e inputs (locals ++ v ∷ []) rest) x (whole_of y) left)
-  mean precision owner answer (call k args) inputs locals turns =
-      then_with (mean_all precision owner answer args inputs locals turns) (λ values left. answer k values left)
+-- in a statement whose calls are so answered, and whose inputs have these values in lowest terms
+module _ (precision : Precision) (owner : ℕ) (calls : Calls) (inputs : List Ratio) where
+  abbrev mutual
+    -- a body inside loops whose variables have these values, outermost first, with so many turns left
+    pub mean : BodyTree → List Ratio → ℕ → Ran
+    mean (num v) locals turns = Ok (v, turns)
+    mean (input i) locals turns = Ok (value_at inputs i, turns)
+    mean (local j) locals turns = Ok (value_at locals j, turns)
+    mean (neg a) locals turns = then_with (mean a locals turns) (λ x left. Ok (negative_of x, left))
+    mean (op o a b) locals turns =
+        then_both (mean a locals turns) (λ left. mean b locals left)
+        (λ x y left. as_run owner left (operate precision o x y))
+    mean (choice c a b p q) locals turns =
+        then_both (mean a locals turns) (λ left. mean b locals left)
+        (λ x y left. if holds c x y then mean p locals left else mean q locals left)
+    mean (total a b e) locals turns =
+        then_both (mean a locals turns) (λ left. mean b locals left)
+        (λ x y left. rounds_between precision owner (λ v rest. mean e (locals ++ v ∷ []) rest)
+        Add (whole (pos 0)) (whole_of x) (whole_of y) left)
+    mean (product a b e) locals turns =
+        then_both (mean a locals turns) (λ left. mean b locals left)
+        (λ x y left. rounds_between precision owner (λ v rest. mean e (locals ++ v ∷ []) rest)
+        Mul (whole (pos 1)) (whole_of x) (whole_of y) left)
+    mean (iterate a b e) locals turns =
+        then_both (mean a locals turns) (λ left. mean b locals left)
+        (λ x y left. replacements_for precision owner (λ v rest. mean e (locals ++ v ∷ []) rest) x (whole_of y) left)
+    mean (call k out args) locals turns =
+        then_with (mean_all args locals turns) (λ values left. calls k out values left)
 
-  -- the arguments of a call, from left to right
-  pub mean_all : Precision → ℕ → Calls → BodyTrees → List Ratio → List Ratio → ℕ → Result (List Ratio × ℕ) Stop
-  mean_all precision owner answer none inputs locals turns = Ok ([], turns)
-  mean_all precision owner answer (more a rest) inputs locals turns =
-      then_with (mean precision owner answer a inputs locals turns) (λ v left.
-      then_with (mean_all precision owner answer rest inputs locals left) (λ values t. Ok (v ∷ values, t)))
+    -- the arguments of a call, from left to right
+    pub mean_all : BodyTrees → List Ratio → ℕ → Result (List Ratio × ℕ) Stop
+    mean_all none locals turns = Ok ([], turns)
+    mean_all (more a rest) locals turns =
+        then_with (mean a locals turns) (λ v left.
+        then_with (mean_all rest locals left) (λ values t. Ok (v ∷ values, t)))

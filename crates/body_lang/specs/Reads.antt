@@ -1,27 +1,26 @@
--- What a body reads: inputs, the variables of the loops around, and subtasks.
-use Rattle.std.specs.Prelude.{◌≡◌, ◌<◌, ℕ, suc, List, Some, slice_get, ⊤}
+-- What a body reads: inputs, the variables of the loops around, and outputs of subtasks.
+use Rattle.std.specs.Prelude.{◌≡◌, ◌<◌, ℕ, suc, List, IsSomeAnd, slice_get, ⊤}
+use Rattle.body_lang.specs.declared.arity.Arity.{Arity}
 use Rattle.body_lang.specs.BodyTree.{BodyTree, BodyTrees, num, input, local, neg, op, choice, total, product, iterate, call, none, more, count_of}
 
-abbrev mutual
-  -- all is there that is read by a body of a statement with n inputs, and subtasks that have so many each, inside so many loops:
-  -- a call has as many arguments as its subtask has inputs
-  pub IsClosed : ℕ → List ℕ → ℕ → BodyTree → Type 0
-  IsClosed n arities loops (num v) = ⊤
-  IsClosed n arities loops (input i) = i < n
-  IsClosed n arities loops (local j) = j < loops
-  IsClosed n arities loops (neg a) = IsClosed n arities loops a
-  IsClosed n arities loops (op o a b) = IsClosed n arities loops a × IsClosed n arities loops b
-  IsClosed n arities loops (choice c a b p q) =
-      IsClosed n arities loops a × IsClosed n arities loops b × IsClosed n arities loops p × IsClosed n arities loops q
-  IsClosed n arities loops (total a b e) =
-      IsClosed n arities loops a × IsClosed n arities loops b × IsClosed n arities (suc loops) e
-  IsClosed n arities loops (product a b e) =
-      IsClosed n arities loops a × IsClosed n arities loops b × IsClosed n arities (suc loops) e
-  IsClosed n arities loops (iterate a b e) =
-      IsClosed n arities loops a × IsClosed n arities loops b × IsClosed n arities (suc loops) e
-  IsClosed n arities loops (call k args) = (slice_get arities k ≡ Some (count_of args)) × AreClosed n arities loops args
+-- in a statement with so many inputs, and subtasks of these arities
+module _ (inputs : ℕ) (arities : List Arity) where
+  abbrev mutual
+    -- all is there that a body inside so many loops reads: a call has as many arguments as its subtask has inputs
+    pub IsClosed : ℕ → BodyTree → Type 0
+    IsClosed loops (num v) = ⊤
+    IsClosed loops (input i) = i < inputs
+    IsClosed loops (local j) = j < loops
+    IsClosed loops (neg a) = IsClosed loops a
+    IsClosed loops (op o a b) = IsClosed loops a × IsClosed loops b
+    IsClosed loops (choice c a b p q) = IsClosed loops a × IsClosed loops b × IsClosed loops p × IsClosed loops q
+    IsClosed loops (total a b e) = IsClosed loops a × IsClosed loops b × IsClosed (suc loops) e
+    IsClosed loops (product a b e) = IsClosed loops a × IsClosed loops b × IsClosed (suc loops) e
+    IsClosed loops (iterate a b e) = IsClosed loops a × IsClosed loops b × IsClosed (suc loops) e
+    IsClosed loops (call k out args) =
+        IsSomeAnd (slice_get arities k) (λ a. (out < a.outputs) × (count_of args ≡ a.inputs)) × AreClosed loops args
 
-  -- the same of the arguments of a call
-  pub AreClosed : ℕ → List ℕ → ℕ → BodyTrees → Type 0
-  AreClosed n arities loops none = ⊤
-  AreClosed n arities loops (more a rest) = IsClosed n arities loops a × AreClosed n arities loops rest
+    -- the same of the arguments of a call
+    pub AreClosed : ℕ → BodyTrees → Type 0
+    AreClosed loops none = ⊤
+    AreClosed loops (more a rest) = IsClosed loops a × AreClosed loops rest

@@ -1,6 +1,6 @@
 -- A sample statement, number 7, and the runs of its bodies.
 use Rattle.std.specs.Prelude.{ℕ, zero, suc, pos, neg_ℤ, [], ◌∷◌, Ok, Err}
-use Rattle.priz_frac.specs.Arithmetic.{product_of}
+use Rattle.priz_frac.specs.Arithmetic.{sum_of, product_of}
 use Rattle.body_lang.specs.declared.op.Op.TheVariants.{Add, Div}
 use Rattle.body_lang.specs.declared.run_fault.RunFault.{RunFault}
 use Rattle.body_lang.specs.BodyTree.{BodyTree, num, op}
@@ -30,15 +30,16 @@ by_zero = op Div (sample_number 1) (sample_number 0)
 abbrev pub too_wide : BodyTree
 too_wide = op Add (sample_number 9223372036854775807) (sample_number 1)
 
--- subtask 0 squares its argument, and subtask 1 tells how many turns are left; there is no other
+-- subtask 0 gives the square of its argument, and the number after it; subtask 1 tells how many turns are left; there is no other
 abbrev pub sample_calls : Calls
-sample_calls zero (x ∷ []) turns = Ok (product_of x x, turns)
-sample_calls (suc zero) arguments turns = Ok (whole (pos turns), turns)
-sample_calls _ _ turns = Err no_row
+sample_calls zero zero (x ∷ []) turns = Ok (product_of x x, turns)
+sample_calls zero (suc zero) (x ∷ []) turns = Ok (sum_of x (whole (pos 1)), turns)
+sample_calls (suc zero) zero arguments turns = Ok (whole (pos turns), turns)
+sample_calls _ _ _ turns = Err no_row
 
 -- a run of the body with so many turns, where the statement's inputs are 4 and 5
 abbrev pub sample_run : Precision → BodyTree → ℕ → Ran
-sample_run precision body turns = mean precision 7 sample_calls body (whole (pos 4) ∷ whole (pos 5) ∷ []) [] turns
+sample_run precision body turns = mean precision 7 sample_calls (whole (pos 4) ∷ whole (pos 5) ∷ []) body [] turns
 
 -- the body ends in the number n, with so many turns left
 abbrev pub gives : ℕ → ℕ → Ran

@@ -21,7 +21,7 @@ body_node (Body-F.If c a b p q) = choice c a b p q
 body_node (Body-F.Sum a b e) = total a b e
 body_node (Body-F.Prod a b e) = product a b e
 body_node (Body-F.Iter a b e) = iterate a b e
-body_node (Body-F.Call k args) = call k (body_arguments args)
+body_node (Body-F.Call k out args) = call k out (body_arguments args)
 
 -- a body's tree
 abbrev pub body_tree : Body → BodyTree

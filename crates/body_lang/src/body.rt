@@ -6,7 +6,8 @@ use sqlite_items::{Boxed, Items};
 ///
 /// Its parts are taken from left to right, and the first fault ends the run. `check_body` passes it
 /// just where the number of each input is below the count of inputs, that of each local below the
-/// count of the loops around it, and each call has a subtask with as many inputs as it has arguments.
+/// count of the loops around it, and each call has a subtask with as many inputs as it has arguments,
+/// and with the output that it asks for.
 #[derive(Drop)]
 pub enum Body {
     Num(Frac),
@@ -48,9 +49,11 @@ pub enum Body {
         second: Boxed<Body>,
         each: Boxed<Body>,
     },
-    /// What the statement's subtask with this number, from 0 on, gives for the arguments.
+    /// What the statement's subtask with this number gives for the arguments: its output with the number `out`.
+    /// Both count from 0 on.
     Call {
         k: u32,
+        out: u32,
         args: Items<Body>,
     },
 }

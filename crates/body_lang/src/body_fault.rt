@@ -5,7 +5,7 @@ pub enum BodyFault {
     BadInput,
     /// No enclosing loop has this number.
     BadLocal,
-    /// The statement has no subtask with this number.
+    /// The statement has no subtask with this number, or that has no such output.
     BadCall,
     /// The call gives more or fewer arguments than its subtask has inputs.
     BadArity,

@@ -4,14 +4,14 @@ ghost use Rattle.body_lang.specs.View.{body_tree, body_trees};
 ghost use Rattle.body_lang.specs.Verdicts.{fault_unless};
 ghost use Rattle.body_lang.specs.Checked.{checked, all_checked, call_checked};
 
-use crate::{Body, BodyFault};
+use crate::{Arity, Body, BodyFault};
 use sqlite_items::at;
 
 /// Names the first bad node of a body, from left to right, a node before its parts.
 ///
-/// `inputs` counts the statement's inputs, and `arities` the inputs of each of its subtasks.
+/// `inputs` counts the statement's inputs, and `arities` the inputs and outputs of each of its subtasks.
 /// Takes no memory.
-pub fn check_body(body: &Body, inputs: u32, arities: &[u32]) -> Result<(), BodyFault>
+pub fn check_body(body: &Body, inputs: u32, arities: &[Arity]) -> Result<(), BodyFault>
     ensures { result ≡ checked inputs arities.now 0 (body_tree body.now) }
 {
     check_inside(body, inputs, arities, 0)
@@ -19,7 +19,7 @@ pub fn check_body(body: &Body, inputs: u32, arities: &[u32]) -> Result<(), BodyF
 
 // `loops` counts the enclosing loops, up to 2^32, which no Local reaches.
 #[cycle(checking)]
-fn check_inside(body: &Body, inputs: u32, arities: &[u32], loops: u64) -> Result<(), BodyFault>
+fn check_inside(body: &Body, inputs: u32, arities: &[Arity], loops: u64) -> Result<(), BodyFault>
     ensures { (d : ℕ) → loops ≡ min d (2 ^ 32) → result ≡ checked inputs arities.now d (body_tree body.now) }
 {
     match body {
@@ -62,15 +62,15 @@ fn check_inside(body: &Body, inputs: u32, arities: &[u32], loops: u64) -> Result
             check_inside(second.get(), inputs, arities, loops)?;
             check_inside(each.get(), inputs, arities, deeper(loops))
         }
-        Body::Call { k, args } => {
-            check_call(*k, args.as_slice(), arities)?;
+        Body::Call { k, out, args } => {
+            check_call(*k, *out, args.as_slice(), arities)?;
             check_all(args.as_slice(), inputs, arities, loops)
         }
     }
 }
 
 #[cycle(checking)]
-fn check_all(args: &[Body], inputs: u32, arities: &[u32], loops: u64) -> Result<(), BodyFault>
+fn check_all(args: &[Body], inputs: u32, arities: &[Arity], loops: u64) -> Result<(), BodyFault>
     ensures { (d : ℕ) → loops ≡ min d (2 ^ 32) → result ≡ all_checked inputs arities.now d (body_trees args.now) }
 {
     for arg in args {
@@ -81,12 +81,15 @@ fn check_all(args: &[Body], inputs: u32, arities: &[u32], loops: u64) -> Result<
 
 // The call itself, and not its arguments.
 #[tactic(auto, using(crate::proofs::Arguments::argument_count))]
-fn check_call(k: u32, args: &[Body], arities: &[u32]) -> Result<(), BodyFault>
-    ensures { result ≡ call_checked (slice_get arities.now k) (count_of (body_trees args.now)) }
+fn check_call(k: u32, out: u32, args: &[Body], arities: &[Arity]) -> Result<(), BodyFault>
+    ensures { result ≡ call_checked (slice_get arities.now k) out (count_of (body_trees args.now)) }
 {
     match at(arities, k as usize) {
         None => Err(BodyFault::BadCall),
-        Some(arity) => fault_unless(args.len() == *arity as usize, BodyFault::BadArity),
+        Some(arity) => {
+            fault_unless(out < arity.outputs, BodyFault::BadCall)?;
+            fault_unless(args.len() == arity.inputs as usize, BodyFault::BadArity)
+        }
     }
 }
 

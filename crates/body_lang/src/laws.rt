@@ -3,6 +3,7 @@ ghost use Rattle.std.specs.Prelude.{◌≡◌, ◌↔◌, ℕ, List, Ok};
 ghost use Rattle.priz_frac.specs.Ratio.{Ratio};
 ghost use Rattle.priz_frac.specs.Lowest.{IsLowest};
 ghost use Rattle.priz_frac.specs.Narrow.{IsNarrow};
+ghost use Rattle.body_lang.specs.declared.arity.Arity.{Arity};
 ghost use Rattle.body_lang.specs.BodyTree.{BodyTree};
 ghost use Rattle.body_lang.specs.Checked.{checked};
 ghost use Rattle.body_lang.specs.Reads.{IsClosed};
@@ -12,7 +13,7 @@ ghost use Rattle.body_lang.specs.Keeping.{MeaningKeeps};
 ghost use Rattle.body_lang.specs.Follows.{RunFollows, RunFollowsOnRows, CallsFollow, CallsFollowOnRows};
 ghost use Rattle.body_lang.specs.OperationExamples.{InputsAreRead, ResultsAreInLowestTerms, DivisionByZeroIsAFault, WidthIsAFault, LeftIsTakenFirst, OneBranchIsTaken, SidesAreTakenFirst};
 ghost use Rattle.body_lang.specs.LoopExamples.{RoundsTakeTurns, TurnComesBeforePart, EachNumberHasARound, EmptyLoopsTakeNoTurn, BoundsAreWhole, ReplacementsAreCounted, LoopsAreNested, ExactLoopsGoOn};
-ghost use Rattle.body_lang.specs.CallExamples.{CallsAreAnswered, ArgumentsAreTakenFirst, AnswersHaveTheTurnsLeft};
+ghost use Rattle.body_lang.specs.CallExamples.{CallsAreAnswered, OutputsAreTold, ArgumentsAreTakenFirst, AnswersHaveTheTurnsLeft};
 
 /// What small bodies mean, worked out by hand.
 #[tactic(auto, unfolding(priz_frac::specs::Gcd::gcd))]
@@ -35,6 +36,7 @@ pub fn bodies_mean_what_they_should()
     ensures exact_loops { ExactLoopsGoOn }
 
     ensures calls { CallsAreAnswered }
+    ensures outputs { OutputsAreTold }
     ensures arguments_first { ArgumentsAreTakenFirst }
     ensures turns_left { AnswersHaveTheTurnsLeft }
 {}
@@ -44,11 +46,13 @@ pub fn bodies_mean_what_they_should()
 /// So width and turns change no value: they only stop a run.
 pub fn exact_meaning_ends_in_the_narrow_value()
     ensures same { (owner : ℕ) (f g : Calls) → CallsFollow f g
-        → (body : BodyTree) (inputs locals : List Ratio) (turns : ℕ)
-        → RunFollows (mean narrowly owner f body inputs locals turns) (mean exactly owner g body inputs locals) }
+        → (inputs : List Ratio) (body : BodyTree) (locals : List Ratio) (turns : ℕ)
+        → RunFollows (mean narrowly owner f inputs body locals turns)
+        (mean exactly owner g inputs body locals) }
     ensures on_rows { (owner : ℕ) (f g : Calls) → CallsFollowOnRows f g
-        → (body : BodyTree) (inputs locals : List Ratio) (turns : ℕ)
-        → RunFollowsOnRows (mean narrowly owner f body inputs locals turns) (mean exactly owner g body inputs locals) }
+        → (inputs : List Ratio) (body : BodyTree) (locals : List Ratio) (turns : ℕ)
+        → RunFollowsOnRows (mean narrowly owner f inputs body locals turns)
+        (mean exactly owner g inputs body locals) }
 {}
 
 /// Values in lowest terms stay so, in both meanings; those that fit as well, in the narrow one.
@@ -59,5 +63,6 @@ pub fn values_are_in_lowest_terms()
 
 /// A body passes the check just where all that it reads is there.
 pub fn checked_bodies_read_what_is_there()
-    ensures { (inputs : ℕ) (arities : List ℕ) (loops : ℕ) (body : BodyTree) → (checked inputs arities loops body ≡ Ok tt) ↔ IsClosed inputs arities loops body }
+    ensures { (inputs : ℕ) (arities : List Arity) (loops : ℕ) (body : BodyTree)
+        → (checked inputs arities loops body ≡ Ok tt) ↔ IsClosed inputs arities loops body }
 {}

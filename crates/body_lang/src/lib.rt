@@ -1,6 +1,7 @@
 //! Bodies: the expressions that give a statement's output, and what they mean.
 #![tactic(auto)]
 
+mod arity;
 mod body;
 mod body_fault;
 mod check;
@@ -8,11 +9,13 @@ mod cmp;
 mod equation;
 mod laws;
 mod loop_kind;
+mod numbers;
 mod op;
 mod run_fault;
 #[cfg(test)]
 mod tests;
 
+pub use arity::Arity;
 pub use body::Body;
 pub use body_fault::BodyFault;
 pub use check::check_body;
@@ -23,5 +26,6 @@ pub use laws::{
     exact_meaning_ends_in_the_narrow_value, values_are_in_lowest_terms,
 };
 pub use loop_kind::LoopKind;
+pub use numbers::numbers_are_narrow;
 pub use op::Op;
 pub use run_fault::RunFault;

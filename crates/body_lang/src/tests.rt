@@ -1,5 +1,5 @@
-// Bodies of a statement with two inputs, and two subtasks that have one and two.
-use crate::{Body, BodyFault, Cmp, LoopKind, Op, check_body};
+// Bodies of a statement with two inputs, and two subtasks: one input and one output, and two of each.
+use crate::{Arity, Body, BodyFault, Cmp, LoopKind, Op, check_body};
 use sqlite_items::{Boxed, Items};
 use std::alloc::{AllocError, Global};
 use std::test::Fail;
@@ -26,6 +26,8 @@ enum Form {
     /// A call of this subtask.
     Call(u32),
     CallOfTwo(u32),
+    /// A call of two arguments for the second output.
+    SecondOfTwo(u32),
 }
 
 #[derive(Clone, Copy)]
@@ -40,6 +42,7 @@ impl Make {
             Leaf::Local(j) => Body::Local(j),
             Leaf::Call(k) => Body::Call {
                 k,
+                out: 0,
                 args: Items::new(self.alloc),
             },
         }
@@ -96,12 +99,12 @@ impl Make {
         })
     }
 
-    fn call(self, k: u32, leaves: &[Leaf]) -> Result<Body, AllocError> {
+    fn call(self, k: u32, out: u32, leaves: &[Leaf]) -> Result<Body, AllocError> {
         let mut args = Items::new(self.alloc);
         for leaf in leaves {
             args.push(self.leaf(*leaf))?;
         }
-        Ok(Body::Call { k, args })
+        Ok(Body::Call { k, out, args })
     }
 
     fn body(self, form: Form, leaves: [Leaf; 4]) -> Result<Body, AllocError> {
@@ -116,8 +119,9 @@ impl Make {
                 let inner = self.turns(LoopKind::Iter, c, c, self.leaf(d))?;
                 self.turns(LoopKind::Sum, a, b, inner)
             }
-            Form::Call(k) => self.call(k, &[a]),
-            Form::CallOfTwo(k) => self.call(k, &[a, b]),
+            Form::Call(k) => self.call(k, 0, &[a]),
+            Form::CallOfTwo(k) => self.call(k, 0, &[a, b]),
+            Form::SecondOfTwo(k) => self.call(k, 1, &[a, b]),
         }
     }
 }
@@ -150,7 +154,7 @@ const CALL: Result<(), BodyFault> = Err(BodyFault::BadCall);
 
 const ARITY: Result<(), BodyFault> = Err(BodyFault::BadArity);
 
-const BODIES: [(Form, [Leaf; 4], Result<(), BodyFault>); 48] = [
+const BODIES: [(Form, [Leaf; 4], Result<(), BodyFault>); 52] = [
     (Form::Alone, [X, X, X, X], OK),
     (Form::Alone, [NO, X, X, X], INPUT),
     (Form::Alone, [Leaf::Input(u32::MAX), X, X, X], INPUT),
@@ -201,7 +205,23 @@ const BODIES: [(Form, [Leaf; 4], Result<(), BodyFault>); 48] = [
     (Form::CallOfTwo(1), [X, I, X, X], LOCAL),
     (Form::Call(0), [Leaf::Call(2), X, X, X], CALL),
     (SUM, [X, X, Leaf::Call(0), X], ARITY),
+    // an output that is not there, before a wrong number of arguments
+    (Form::SecondOfTwo(1), [X, X, X, X], OK),
+    (Form::SecondOfTwo(1), [X, NO, X, X], INPUT),
+    (Form::SecondOfTwo(0), [NO, X, X, X], CALL),
+    (Form::SecondOfTwo(2), [X, X, X, X], CALL),
     (Form::Op, [Leaf::Call(2), Leaf::Call(0), X, X], CALL),
+];
+
+const SUBTASKS: [Arity; 2] = [
+    Arity {
+        inputs: 1,
+        outputs: 1,
+    },
+    Arity {
+        inputs: 2,
+        outputs: 2,
+    },
 ];
 
 #[test]
@@ -210,7 +230,7 @@ fn first_bad_node_is_named(rt: HostRuntime) -> Result<(), Fail> {
     for (form, leaves, verdict) in BODIES {
         let body = make.body(form, leaves)?;
         assert_eq!(rt;
-            check_body(&body, 2, &[1, 2]),
+            check_body(&body, 2, &SUBTASKS),
             verdict,
             "{form:?} {leaves:?}"
         );

@@ -18,7 +18,7 @@ use Rattle.concept_unfold.specs.BodyFault.{broken_at, is_among, is_readable, exp
 use Rattle.concept_unfold.specs.declared.loops.Loops.TheVariants as loops
 use Rattle.concept_unfold.specs.declared.loops.Loops.TheFolds.{fold-roll-Loops}
 use Rattle.concept_unfold.specs.declared.loops.Loops.TheOpen.{Loops-F}
-use Rattle.concept_unfold.specs.LoopNames.{name_before, loop_names}
+use Rattle.concept_unfold.specs.steps.LoopNames.{name_before, loop_names}
 use Rattle.concept_unfold.specs.Rows.{Row, never, AllHold, FirstFailing}
 use Rattle.concept_unfold.specs.ConceptRules.{fault_rows, body_rows}
 use Rattle.concept_unfold.proofs.Passing.{none_hold, first_holds, one_fails}

@@ -13,7 +13,7 @@ use Rattle.utopist_syntax.specs.declared.path.Path.{Path}
 use Rattle.concept_unfold.specs.Paths.{first_name, input_in, inputs_of, input_names}
 use Rattle.std.proofs.lemmas.List.Elements.{Contains-append_left, Contains-append_cases, Contains-push}
 use Rattle.priz_base.proofs.Members.{contains_here, contains_there, contains_none, contains_cases}
-use Rattle.concept_unfold.specs.InputPlaces.{Places, ArePlaces}
+use Rattle.concept_unfold.specs.steps.InputPlaces.{Places, ArePlaces}
 use Rattle.concept_unfold.proofs.Places.{false_of, first_is, first_is_not, place_stable}
 
 -- a name that is none of the names stands behind all of them

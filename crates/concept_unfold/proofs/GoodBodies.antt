@@ -5,15 +5,13 @@ use Rattle.std.specs.Str.{bytes_eq}
 use Rattle.std.specs.List.{position_or_len}
 use Rattle.std.proofs.lemmas.List.{length-map}
 use Rattle.priz_base.proofs.More.{some_below}
-use Rattle.priz_frac.specs.Whole.{whole}
-use Rattle.body_lang.specs.declared.body.Body.{Body}
+use Rattle.body_lang.specs.BodyTree.{BodyTree}
+use Rattle.body_lang.specs.declared.arity.Arity.{Arity}
 use Rattle.body_lang.specs.declared.loop_kind.LoopKind.{LoopKind}
 use Rattle.body_lang.specs.declared.loop_kind.LoopKind.TheVariants.{Sum, Prod, Iter}
-use Rattle.body_lang.specs.View.{body_tree}
 use Rattle.body_lang.specs.declared.body_fault.BodyFault.TheVariants.{BadInput, BadLocal}
 use Rattle.body_lang.specs.Verdicts.{fault_unless}
 use Rattle.body_lang.specs.Checked as check
-use Rattle.body_lang.proofs.BodyTrees as trees
 use Rattle.body_lang.proofs.ClosedBodies.{below_passes}
 use Rattle.body_lang.proofs.Verdicts.{first_passes, second_passes, both_pass, test_passes}
 use Rattle.statement_set.specs.declared.statement.Statement.{Statement}
@@ -31,8 +29,8 @@ use Rattle.concept_unfold.specs.Bodies.{loop_number, loop_or_input, named, loop_
 use Rattle.concept_unfold.proofs.Places.{stands_there}
 use Rattle.concept_unfold.proofs.Among.{listed}
 
-abbrev passes_check : ℕ → ℕ → Body → Type 0
-passes_check n loops b = check.checked n [] loops (body_tree b) ≡ Ok tt
+abbrev passes_check : ℕ → ℕ → BodyTree → Type 0
+passes_check n loops b = check.checked n [] loops b ≡ Ok tt
 
 number_here : (name x : List ℕ) (xs : List (List ℕ)) → bytes_eq name x ≡ true → loop_number name (x ∷ xs) ≡ Some (length xs)
 number_here name x xs e = rw e refl
@@ -65,37 +63,32 @@ left_true false b t e = absurd (cc)
 
 name_at : (inputs rounds : List (List ℕ)) (name : List ℕ) (o : Option ℕ) → loop_number name rounds ≡ o → (is_among name inputs || is_among name rounds) ≡ true → passes_check (length inputs) (length rounds) (loop_or_input o (position_or_len (bytes_eq name) inputs))
 name_at inputs rounds name (Some j) is t =
-    ap (check.checked (length inputs) [] (length rounds)) (trees.local_tree j)
-    ∙ ap (λ b. fault_unless b BadLocal) (below_passes j (length rounds) (number_below name rounds j is))
+    ap (λ b. fault_unless b BadLocal) (below_passes j (length rounds) (number_below name rounds j is))
 name_at inputs rounds name None is t =
     let i = position_or_len (bytes_eq name) inputs in
     let there = listed name inputs (left_true (is_among name inputs) (is_among name rounds) t (no_loop name rounds is)) in
-    ap (check.checked (length inputs) [] (length rounds)) (trees.input_tree i)
-    ∙ ap (λ b. fault_unless b BadInput) (below_passes i (length inputs) (some_below inputs i name (stands_there inputs name there)))
+    ap (λ b. fault_unless b BadInput) (below_passes i (length inputs) (some_below inputs i name (stands_there inputs name there)))
 
 path_passes : (inputs rounds taken : List (List ℕ)) (names : List Named) → is_readable (record { taken = taken; inputs = inputs; rounds = rounds }) names ≡ true → passes_check (length inputs) (length rounds) (named inputs rounds (first_of names).text)
 path_passes inputs rounds taken [] t = absurd (cc)
 path_passes inputs rounds taken (n ∷ []) t = name_at inputs rounds n.text (loop_number n.text rounds) refl t
 path_passes inputs rounds taken (n ∷ m ∷ ns) t = absurd (cc)
 
-loop_passes : (n loops : ℕ) (kind : LoopKind) (a b e : Body) → passes_check n loops a → passes_check n loops b → passes_check n (suc loops) e → passes_check n loops (loop_body kind a b e)
-loop_passes n loops Sum a b e p q r = ap (check.checked n [] loops) (trees.total_tree a b e) ∙ both_pass _ _ p (both_pass _ _ q r)
-loop_passes n loops Prod a b e p q r = ap (check.checked n [] loops) (trees.product_tree a b e) ∙ both_pass _ _ p (both_pass _ _ q r)
-loop_passes n loops Iter a b e p q r = ap (check.checked n [] loops) (trees.iterate_tree a b e) ∙ both_pass _ _ p (both_pass _ _ q r)
+loop_passes : (n loops : ℕ) (kind : LoopKind) (a b e : BodyTree) → passes_check n loops a → passes_check n loops b → passes_check n (suc loops) e → passes_check n loops (loop_body kind a b e)
+loop_passes n loops Sum a b e p q r = both_pass _ _ p (both_pass _ _ q r)
+loop_passes n loops Prod a b e p q r = both_pass _ _ p (both_pass _ _ q r)
+loop_passes n loops Iter a b e p q r = both_pass _ _ p (both_pass _ _ q r)
 
 expr_passes : (inputs rounds taken : List (List ℕ)) (t : ExprTree) → IsBuiltExpr t → expr_fault (record { taken = taken; inputs = inputs; rounds = rounds }) t ≡ Ok tt → passes_check (length inputs) (length rounds) (expr_body inputs rounds t)
-expr_passes inputs rounds taken (num n) built h = ap (check.checked (length inputs) [] (length rounds)) (trees.num_tree (whole n))
+expr_passes inputs rounds taken (num n) built h = refl
 expr_passes inputs rounds taken (path names) built h = path_passes inputs rounds taken names (test_passes _ (broken_at (first_of names) rule.UnknownPath) h)
-expr_passes inputs rounds taken (neg a) built h =
-    ap (check.checked (length inputs) [] (length rounds)) (trees.neg_tree (expr_body inputs rounds a)) ∙ expr_passes inputs rounds taken a built h
+expr_passes inputs rounds taken (neg a) built h = expr_passes inputs rounds taken a built h
 expr_passes inputs rounds taken (op o a b) built h =
-    ap (check.checked (length inputs) [] (length rounds)) (trees.op_tree o (expr_body inputs rounds a) (expr_body inputs rounds b))
-    ∙ both_pass _ _ (expr_passes inputs rounds taken a built.0 (first_passes _ _ h)) (expr_passes inputs rounds taken b built.1 (second_passes _ _ h))
+    both_pass _ _ (expr_passes inputs rounds taken a built.0 (first_passes _ _ h)) (expr_passes inputs rounds taken b built.1 (second_passes _ _ h))
 expr_passes inputs rounds taken (choice c a b t e) built h =
     let after = second_passes _ _ h in
     let branches = second_passes _ _ after in
-    ap (check.checked (length inputs) [] (length rounds)) (trees.choice_tree c (expr_body inputs rounds a) (expr_body inputs rounds b) (expr_body inputs rounds t) (expr_body inputs rounds e))
-    ∙ both_pass _ _ (expr_passes inputs rounds taken a built.0 (first_passes _ _ h))
+    both_pass _ _ (expr_passes inputs rounds taken a built.0 (first_passes _ _ h))
     (both_pass _ _ (expr_passes inputs rounds taken b built.1.0 (first_passes _ _ after))
     (both_pass _ _ (expr_passes inputs rounds taken t built.1.1.0 (first_passes _ _ branches)) (expr_passes inputs rounds taken e built.1.1.1 (second_passes _ _ branches))))
 expr_passes inputs rounds taken (loop kind n a b e) built h =
@@ -106,16 +99,19 @@ expr_passes inputs rounds taken (loop kind n a b e) built h =
     (expr_passes inputs (n.text ∷ rounds) (n.text ∷ taken) e built.1.1 (second_passes _ _ after))
 expr_passes inputs rounds taken (call k place args) built h = absurd built
 
+abbrev arity_of : Subtask → Arity
+arity_of u = record { inputs = length u.inputs; outputs = length u.outputs }
+
 -- a statement without subtasks whose body takes its inputs
-pub fits_statement : (s : Statement) (b : Option Body) → s.subs ≡ [] → s.body ≡ b → IfSome b (λ x. check.checked (length s.inputs) [] 0 (body_tree x) ≡ Ok tt) → IsBodyOver s
+pub fits_statement : (s : Statement) (b : Option BodyTree) → s.subs ≡ [] → s.body ≡ b → IfSome b (λ x. check.checked (length s.inputs) [] 0 x ≡ Ok tt) → IsBodyOver s
 fits_statement s b none is h =
-    subst (λ (us : List Subtask). IfSome s.body (λ x. check.checked (length s.inputs) (map (λ u. length u.inputs) us) 0 (body_tree x) ≡ Ok tt)) (sym none)
-    (subst (λ (o : Option Body). IfSome o (λ x. check.checked (length s.inputs) [] 0 (body_tree x) ≡ Ok tt)) (sym is) h)
+    subst (λ (us : List Subtask). IfSome s.body (λ x. check.checked (length s.inputs) (map arity_of us) 0 x ≡ Ok tt)) (sym none)
+    (subst (λ (o : Option BodyTree). IfSome o (λ x. check.checked (length s.inputs) [] 0 x ≡ Ok tt)) (sym is) h)
 
 -- the body of a statement with so many inputs and no subtask
-pub body_passes : (parts : List Part) (body : Option ExprTree) (n : ℕ) → IsBuiltBody body → IsFaultless (input_names parts) body → n ≡ length (inputs_of parts) → IfSome (body_over (input_names parts) body) (λ b. check.checked n [] 0 (body_tree b) ≡ Ok tt)
+pub body_passes : (parts : List Part) (body : Option ExprTree) (n : ℕ) → IsBuiltBody body → IsFaultless (input_names parts) body → n ≡ length (inputs_of parts) → IfSome (body_over (input_names parts) body) (λ b. check.checked n [] 0 b ≡ Ok tt)
 body_passes parts None n built good is = tt
 body_passes parts (Some e) n built good is =
     let inputs = input_names parts in
     let same : length inputs ≡ n = length-map (inputs_of parts) (λ (p : Path). (first_name p).text) ∙ sym is in
-    subst (λ m. check.checked m [] 0 (body_tree (expr_body inputs [] e)) ≡ Ok tt) same (expr_passes inputs [] good.0 e built good.1)
+    subst (λ m. check.checked m [] 0 (expr_body inputs [] e) ≡ Ok tt) same (expr_passes inputs [] good.0 e built good.1)

@@ -7,8 +7,7 @@ pub mod ConceptRules
 pub mod UnfoldingRules
 pub mod Unfolded
 pub mod Answers
-pub mod LoopNames
-pub mod InputPlaces
 pub mod BodyFault
 pub mod Bodies
 pub mod Nodes
+pub mod steps

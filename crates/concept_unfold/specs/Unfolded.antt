@@ -46,6 +46,7 @@ given_of vars g = record { var = var_number vars g.path; value = g.value }
 abbrev pub problem_from : List ItemTree → Compute → Task
 problem_from items c = record {
   names = all_variables items;
+  equations = [];
   statements = flat_map (statements_of (all_variables items)) items;
   givens = map (given_of (all_variables items)) c.givens;
   wants = map (var_number (all_variables items)) c.wants;

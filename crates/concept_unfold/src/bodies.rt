@@ -1,12 +1,13 @@
 //! The body of a statement.
 ghost use Rattle.std.specs.Prelude.{◌≡◌, ◌≤◌, ◌+◌, ◌<◌, ◌^◌, ◌≤ℤ◌, pos, ℕ, List, length, IfOk};
-ghost use Rattle.body_lang.specs.declared.body.Body.TheVariants as leaf;
+ghost use Rattle.std.specs.Option.{option_map};
+ghost use Rattle.body_lang.specs.View.{body_tree};
 ghost use Rattle.utopist_syntax.specs.View.{tree_of};
 ghost use Rattle.utopist_syntax.specs.FileTree.{body_expr_tree};
 ghost use Rattle.concept_unfold.specs.Built.{IsBuiltExpr, IsBuiltBody};
 ghost use Rattle.concept_unfold.specs.Paths.{inputs_of, input_names, first_name};
-ghost use Rattle.concept_unfold.specs.LoopNames.{loop_names};
-ghost use Rattle.concept_unfold.specs.InputPlaces.{ArePlaces};
+ghost use Rattle.concept_unfold.specs.steps.LoopNames.{loop_names};
+ghost use Rattle.concept_unfold.specs.steps.InputPlaces.{ArePlaces};
 ghost use Rattle.concept_unfold.specs.Nodes.{nodes, body_nodes};
 ghost use Rattle.concept_unfold.specs.Bodies.{named, loop_body as kind_of_loop, expr_body, body_over};
 
@@ -27,7 +28,8 @@ pub(crate) fn body_of(
 ) -> Result<Option<Body>, NoMem>
     requires built { IsBuiltBody (body_expr_tree body.now) }
     requires few { length (inputs_of parts.now) + body_nodes (body_expr_tree body.now) < 2 ^ 32 }
-    ensures { IfOk result (λ b. b ≡ body_over (input_names parts.now) (body_expr_tree body.now)) }
+    ensures { IfOk result (λ b. option_map body_tree b
+        ≡ body_over (input_names parts.now) (body_expr_tree body.now)) }
 {
     let Some(expr) = body else {
         return Ok(None);
@@ -42,7 +44,8 @@ fn body_at(alloc: Global, inputs: &Inputs, rounds: &Loops, expr: &Expr) -> Resul
     requires built { IsBuiltExpr (tree_of expr.now) }
     requires inputs { inputs.now.count < 2 ^ 32 }
     requires few { length (loop_names rounds.now) + nodes (tree_of expr.now) < 2 ^ 32 }
-    ensures { (names : List (List ℕ)) → ArePlaces inputs.now names → IfOk result (λ b. b ≡ expr_body names (loop_names rounds.now) (tree_of expr.now)) }
+    ensures { (names : List (List ℕ)) → ArePlaces inputs.now names
+        → IfOk result (λ b. body_tree b ≡ expr_body names (loop_names rounds.now) (tree_of expr.now)) }
 {
     match expr {
         Expr::Num(n) => Ok(Body::Num(Frac::from_whole(*n))),
@@ -97,13 +100,14 @@ fn body_at(alloc: Global, inputs: &Inputs, rounds: &Loops, expr: &Expr) -> Resul
         }
         Expr::Call { .. } => Ok(Body::Call {
             k: 0,
+            out: 0,
             args: Items::new(alloc),
         }),
     }
 }
 
 fn loop_body(kind: LoopKind, first: Boxed<Body>, second: Boxed<Body>, each: Boxed<Body>) -> Body
-    ensures { result ≡ kind_of_loop kind first second each }
+    ensures { body_tree result ≡ kind_of_loop kind (body_tree first) (body_tree second) (body_tree each) }
 {
     match kind {
         LoopKind::Sum => Body::Sum {
@@ -128,7 +132,8 @@ fn loop_body(kind: LoopKind, first: Boxed<Body>, second: Boxed<Body>, each: Boxe
 fn named(inputs: &Inputs, rounds: &Loops, path: &Path) -> Body
     requires inputs { inputs.now.count < 2 ^ 32 }
     requires few { length (loop_names rounds.now) < 2 ^ 32 }
-    ensures { (names : List (List ℕ)) → ArePlaces inputs.now names → result ≡ named names (loop_names rounds.now) (first_name path.now).text }
+    ensures { (names : List (List ℕ)) → ArePlaces inputs.now names
+        → body_tree result ≡ named names (loop_names rounds.now) (first_name path.now).text }
 {
     let name = first_text(path);
     match number_of(rounds, name) {

@@ -31,7 +31,6 @@ fn add_givens(problem: &mut Problem, givens: &[GivenPath]) -> Result<(), UnfoldF
     ensures once { Checks (once_rows Rule.DuplicateInput [] (given_names givens.now)) result }
     ensures added { OnOk result (problem.new ≡ record problem.old { givens = map (given_of problem.old.names) givens.now }) }
 {
-    problem.is_well_formed();
     let mut seen = VarSet::new();
     for given in givens {
         let var = var_of(problem, &given.path);

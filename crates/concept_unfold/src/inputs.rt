@@ -2,7 +2,7 @@ ghost use Rattle.std.specs.Prelude.{◌≡◌, ◌<◌, ◌≤◌, ◌-◌, ◌^
 ghost use Rattle.std.specs.List.{position_or_len};
 ghost use Rattle.std.specs.Str.{bytes_eq};
 ghost use Rattle.concept_unfold.specs.Paths.{first_name, input_names};
-ghost use Rattle.concept_unfold.specs.InputPlaces.{ArePlaces};
+ghost use Rattle.concept_unfold.specs.steps.InputPlaces.{ArePlaces};
 ghost use Rattle.concept_unfold.specs.BodyFault.{is_among};
 
 use priz_base::NoMem;
@@ -22,7 +22,7 @@ pub(crate) struct Inputs {
 
 impl Model for Inputs {
     ghost use Rattle.std.specs.Prelude.{All, ◌≤◌, length};
-    ghost use Rattle.concept_unfold.specs.InputPlaces.{Places};
+    ghost use Rattle.concept_unfold.specs.steps.InputPlaces.{Places};
 
     ghost Value = { Places };
 

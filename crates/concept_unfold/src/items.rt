@@ -84,7 +84,6 @@ fn add_statement(
     requires room { length problem.old.statements < max_statements }
     ensures { OnOk result (problem.new ≡ record problem.old { statements = problem.old.statements ++ plain_statement problem.old.names parts.now output.now (body_expr_tree body.now) ∷ [] }) }
 {
-    problem.is_well_formed();
     let inputs = input_vars(alloc, problem, parts)?;
     let output = var_of(problem, output);
     let subs = Items::new(alloc);

@@ -1,5 +1,5 @@
 ghost use Rattle.std.specs.Prelude.{◌≡◌, ◌<◌, ◌^◌, length, IfSome};
-ghost use Rattle.concept_unfold.specs.LoopNames.{loop_names};
+ghost use Rattle.concept_unfold.specs.steps.LoopNames.{loop_names};
 ghost use Rattle.concept_unfold.specs.BodyFault.{is_among};
 ghost use Rattle.concept_unfold.specs.Bodies.{loop_number};
 

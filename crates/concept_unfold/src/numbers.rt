@@ -14,8 +14,8 @@ pub(crate) fn var_of(problem: &Problem, path: &Path) -> Var
     requires { IsOneOf problem.now.names path.now }
     ensures number { result ≡ var_number problem.now.names path.now }
     ensures below { result < var_count problem.now }
+    ensures few { result < 1024 }
 {
-    problem.is_well_formed();
     problem.find(path.parts.as_slice()[0].text()).unwrap()
 }
 

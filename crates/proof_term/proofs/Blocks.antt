@@ -1,17 +1,17 @@
 -- A block that proves the goal gives derivation trees.
 use Rattle.std.proofs.Common.{◌≡◌, ℕ, List, [], ◌∷◌, ◌++◌, Some}
 use Rattle.std.specs.Prelude.{Contains, All, map, slice_get}
-use Rattle.std.proofs.lemmas.List.Elements.{All-nil, All-cons, All-contains, All-weaker, All-append, All-map, All-head, Contains-append_left, Contains-append_right}
+use Rattle.std.proofs.lemmas.List.Elements.{All-nil, All-cons, All-contains, All-weaker, All-append, All-map, Contains-append_left, Contains-append_right}
 use Rattle.priz_base.specs.Sets.{IsWithin}
 use Rattle.priz_base.proofs.Members.{contains_map}
 use Rattle.statement_set.specs.declared.subtask.Subtask.{Subtask}
 use Rattle.statement_set.specs.declared.statement.Statement.{Statement}
 use Rattle.statement_set.specs.Problem.{Task, results}
-use Rattle.statement_set.specs.Formula.{Formula, atom, atoms, statement_formula, subtask_formula}
+use Rattle.statement_set.specs.Formula.{Formula, atom, atoms, conjunction, statement_formula, subtask_formula}
 use Rattle.statement_set.specs.Derivation.{Follows, assume}
 use Rattle.statement_set.specs.Goal.{IsDerivableFrom, hypotheses_from}
 use Rattle.statement_set.proofs.Lists.{each, all_at, some_and}
-use Rattle.statement_set.proofs.Trees.{follows_weaken, use_chain, with_links, with_links_old, with_links_new, make_chain}
+use Rattle.statement_set.proofs.Trees.{follows_weaken, use_chain, with_links, with_links_old, with_links_new, make_chain, conjunction_follows}
 use Rattle.proof_term.specs.Proof.{Steps, done, step, Subs, no_more, known, block, proves, answers}
 
 -- the statements are among the hypotheses
@@ -60,13 +60,14 @@ mutual
   subs_give p S (u ∷ us) no_more H has g a = absurd a
   subs_give p S (u ∷ us) (known more) H has g a =
       let K = with_links (atoms u.inputs) H in
-      let f = All-head (λ v. Follows H (atom v)) u.output [] (gives_within H (results u) S a.0 g) in
-      let c = make_chain (atoms u.inputs) H (atom u.output) (follows_weaken H K (atom u.output) (with_links_old (atoms u.inputs) H) f) in
+      let all = conjunction (results u) in
+      let f = conjunction_follows H (results u) (gives_within H (results u) S a.0 g) in
+      let c = make_chain (atoms u.inputs) H all (follows_weaken H K all (with_links_old (atoms u.inputs) H) f) in
       All-cons (λ u. Follows H (subtask_formula u)) u us c (subs_give p S us more H has g a.1)
   subs_give p S (u ∷ us) (block b more) H has g a =
       let K = with_links (atoms u.inputs) H in
       let f = block_gives p (u.inputs ++ S) b (results u) K (inside_has p H (atoms u.inputs) has) (gives_inside H u.inputs S g) a.0 in
-      let c = make_chain (atoms u.inputs) H (atom u.output) (All-head (λ v. Follows K (atom v)) u.output [] f) in
+      let c = make_chain (atoms u.inputs) H (conjunction (results u)) (conjunction_follows K (results u) f) in
       All-cons (λ u. Follows H (subtask_formula u)) u us c (subs_give p S us more H has g a.1)
 
 -- a block that gives all wants from G gives a derivation of each from G

@@ -3,7 +3,7 @@ use Rattle.std.proofs.Common.{◌≡◌, ℕ, Bool, true, false, cond, List, [],
 use Rattle.std.specs.Prelude.{IsSome, IsSomeAnd, find, not, is_some, slice_get, unwrap_or}
 use Rattle.std.specs.Option.{option_or}
 use Rattle.std.proofs.lemmas.List.Folds.{find-append}
-use Rattle.body_lang.specs.declared.body.Body.{Body}
+use Rattle.body_lang.specs.BodyTree.{BodyTree}
 use Rattle.statement_set.specs.declared.statement.Statement.{Statement}
 use Rattle.statement_set.specs.Problem.{Task}
 use Rattle.proof_term.specs.Proof.{Steps, step, Subs}
@@ -25,7 +25,7 @@ none_behind {X} f xs ys h = by (find f xs) (find f ys) (sym (find-append f xs ys
 module _ (p : Task) where
   has_body : (n : ℕ) → lacks_body p n ≡ false → IsSomeAnd (slice_get p.statements n) (λ s. IsSome s.body)
   has_body n h = by (slice_get p.statements n) h where
-    some : (o : Option Body) → not (is_some o) ≡ false → IsSome o
+    some : (o : Option BodyTree) → not (is_some o) ≡ false → IsSome o
     some None h = absurd (cc)
     some (Some b) h = refl
 

@@ -6,7 +6,7 @@ use Rattle.proof_term.specs.declared.locals.Locals.{Locals}
 use Rattle.proof_term.specs.declared.locals.Locals.TheVariants as variants
 use Rattle.proof_term.specs.declared.locals.Locals.TheOpen.{Locals-F}
 use Rattle.proof_term.specs.declared.locals.Locals.TheFolds.{fold-roll-Locals}
-use Rattle.proof_term.specs.LocalValues.{value_inside, local_values}
+use Rattle.proof_term.specs.steps.LocalValues.{value_inside, local_values}
 
 -- the values inside one more loop
 pub inside_values : (v : Ratio) (around : Bor Locals) → local_values (variants.Inside v around) ≡ local_values around.now ++ v ∷ []

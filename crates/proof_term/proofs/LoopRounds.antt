@@ -10,7 +10,7 @@ use Rattle.body_lang.specs.Rounds.{one_round, rounds, replacements}
 use Rattle.body_lang.specs.Run.{Ran, then_with}
 use Rattle.body_lang.specs.Stop.{Stop}
 use Rattle.priz_frac.specs.Whole.{whole}
-use Rattle.proof_term.specs.Agrees.{Agrees}
+use Rattle.proof_term.specs.steps.Agrees.{Agrees}
 
 -- a result stands for an equal meaning too
 pub agrees_along : {A : Type 0} (owner : ℕ) (r : Result A RunFault) (m n : Result A Stop) → m ≡ n → Agrees owner r n → Agrees owner r m
@@ -26,43 +26,43 @@ turn_passes owner each v t lt =
 module _ (owner : ℕ) (each : Ratio → ℕ → Ran) where
   -- what follows a round of a sum or product
   abbrev after : Op → ℕ → ℤ → Ratio → Ratio → ℕ → Ran
-  after o n i x w u = then_with (as_run owner u (operate narrowly o x w)) (λ y rest. rounds narrowly owner o each n (i +ℤ pos 1) y rest)
+  after o n i x w u = then_with (as_run owner u (operate narrowly o x w)) (λ y rest. rounds narrowly owner each o n (i +ℤ pos 1) y rest)
 
-  pub rounds_start : (o : Op) (n : ℕ) (i : ℤ) (x : Ratio) (t : ℕ) → rounds narrowly owner o each n i x t ≡ rounds narrowly owner o each (n - 0) (i +ℤ pos 0) x t
+  pub rounds_start : (o : Op) (n : ℕ) (i : ℤ) (x : Ratio) (t : ℕ) → rounds narrowly owner each o n i x t ≡ rounds narrowly owner each o (n - 0) (i +ℤ pos 0) x t
   rounds_start o n i x t =
       let a : n ≡ n - 0 = omega arith in
       let b : i ≡ i +ℤ pos 0 = omega (arith, ints) in
-      ap (λ m. rounds narrowly owner o each m i x t) a ∙ ap (λ j. rounds narrowly owner o each (n - 0) j x t) b
+      ap (λ m. rounds narrowly owner each o m i x t) a ∙ ap (λ j. rounds narrowly owner each o (n - 0) j x t) b
 
-  opened : (o : Op) (n k : ℕ) (i : ℤ) (x : Ratio) (t : ℕ) → k < n → rounds narrowly owner o each (n - k) (i +ℤ pos k) x t ≡ then_with (one_round narrowly owner each (whole (i +ℤ pos k)) t) (λ w u. after o (n - k - 1) (i +ℤ pos k) x w u)
+  opened : (o : Op) (n k : ℕ) (i : ℤ) (x : Ratio) (t : ℕ) → k < n → rounds narrowly owner each o (n - k) (i +ℤ pos k) x t ≡ then_with (one_round narrowly owner each (whole (i +ℤ pos k)) t) (λ w u. after o (n - k - 1) (i +ℤ pos k) x w u)
   opened o n k i x t lt =
       let a : n - k ≡ suc (n - k - 1) = omega arith in
-      ap (λ m. rounds narrowly owner o each m (i +ℤ pos k) x t) a
+      ap (λ m. rounds narrowly owner each o m (i +ℤ pos k) x t) a
 
-  pub rounds_more : (o : Op) (n k : ℕ) (i : ℤ) (x v y : Ratio) (t u rest : ℕ) → k < n → one_round narrowly owner each (whole (i +ℤ pos k)) t ≡ Ok (v, u) → as_run owner u (operate narrowly o x v) ≡ Ok (y, rest) → rounds narrowly owner o each (n - k) (i +ℤ pos k) x t ≡ rounds narrowly owner o each (n - (k + 1)) (i +ℤ pos (k + 1)) y rest
+  pub rounds_more : (o : Op) (n k : ℕ) (i : ℤ) (x v y : Ratio) (t u rest : ℕ) → k < n → one_round narrowly owner each (whole (i +ℤ pos k)) t ≡ Ok (v, u) → as_run owner u (operate narrowly o x v) ≡ Ok (y, rest) → rounds narrowly owner each o (n - k) (i +ℤ pos k) x t ≡ rounds narrowly owner each o (n - (k + 1)) (i +ℤ pos (k + 1)) y rest
   rounds_more o n k i x v y t u rest lt er ew =
       let b : n - k - 1 ≡ n - (k + 1) = omega arith in
       let c : i +ℤ pos k +ℤ pos 1 ≡ i +ℤ pos (k + 1) = omega (arith, ints) in
       opened o n k i x t lt
       ∙ ap (λ r. then_with r (λ w s. after o (n - k - 1) (i +ℤ pos k) x w s)) er
-      ∙ ap (λ r. then_with r (λ z s. rounds narrowly owner o each (n - k - 1) (i +ℤ pos k +ℤ pos 1) z s)) ew
-      ∙ ap (λ j. rounds narrowly owner o each (n - k - 1) j y rest) c
-      ∙ ap (λ m. rounds narrowly owner o each m (i +ℤ pos (k + 1)) y rest) b
+      ∙ ap (λ r. then_with r (λ z s. rounds narrowly owner each o (n - k - 1) (i +ℤ pos k +ℤ pos 1) z s)) ew
+      ∙ ap (λ j. rounds narrowly owner each o (n - k - 1) j y rest) c
+      ∙ ap (λ m. rounds narrowly owner each o m (i +ℤ pos (k + 1)) y rest) b
 
-  pub rounds_end : (o : Op) (n k : ℕ) (i : ℤ) (x : Ratio) (t : ℕ) → n ≤ k → rounds narrowly owner o each (n - k) (i +ℤ pos k) x t ≡ Ok (x, t)
+  pub rounds_end : (o : Op) (n k : ℕ) (i : ℤ) (x : Ratio) (t : ℕ) → n ≤ k → rounds narrowly owner each o (n - k) (i +ℤ pos k) x t ≡ Ok (x, t)
   rounds_end o n k i x t le =
       let a : n - k ≡ 0 = omega arith in
-      ap (λ m. rounds narrowly owner o each m (i +ℤ pos k) x t) a
+      ap (λ m. rounds narrowly owner each o m (i +ℤ pos k) x t) a
 
-  pub round_stops : (o : Op) (n k : ℕ) (i : ℤ) (x : Ratio) (t : ℕ) (s : Stop) → k < n → one_round narrowly owner each (whole (i +ℤ pos k)) t ≡ Err s → rounds narrowly owner o each (n - k) (i +ℤ pos k) x t ≡ Err s
+  pub round_stops : (o : Op) (n k : ℕ) (i : ℤ) (x : Ratio) (t : ℕ) (s : Stop) → k < n → one_round narrowly owner each (whole (i +ℤ pos k)) t ≡ Err s → rounds narrowly owner each o (n - k) (i +ℤ pos k) x t ≡ Err s
   round_stops o n k i x t s lt e =
       opened o n k i x t lt ∙ ap (λ r. then_with r (λ w u. after o (n - k - 1) (i +ℤ pos k) x w u)) e
 
-  pub joining_stops : (o : Op) (n k : ℕ) (i : ℤ) (x v : Ratio) (t u : ℕ) (s : Stop) → k < n → one_round narrowly owner each (whole (i +ℤ pos k)) t ≡ Ok (v, u) → as_run owner u (operate narrowly o x v) ≡ Err s → rounds narrowly owner o each (n - k) (i +ℤ pos k) x t ≡ Err s
+  pub joining_stops : (o : Op) (n k : ℕ) (i : ℤ) (x v : Ratio) (t u : ℕ) (s : Stop) → k < n → one_round narrowly owner each (whole (i +ℤ pos k)) t ≡ Ok (v, u) → as_run owner u (operate narrowly o x v) ≡ Err s → rounds narrowly owner each o (n - k) (i +ℤ pos k) x t ≡ Err s
   joining_stops o n k i x v t u s lt er ew =
       opened o n k i x t lt
       ∙ ap (λ r. then_with r (λ w z. after o (n - k - 1) (i +ℤ pos k) x w z)) er
-      ∙ ap (λ r. then_with r (λ y rest. rounds narrowly owner o each (n - k - 1) (i +ℤ pos k +ℤ pos 1) y rest)) ew
+      ∙ ap (λ r. then_with r (λ y rest. rounds narrowly owner each o (n - k - 1) (i +ℤ pos k +ℤ pos 1) y rest)) ew
 
   pub replacing_starts : (n : ℕ) (x : Ratio) (t : ℕ) → replacements narrowly owner each n x t ≡ replacements narrowly owner each (n - 0) x t
   replacing_starts n x t = let a : n ≡ n - 0 = omega arith in ap (λ m. replacements narrowly owner each m x t) a

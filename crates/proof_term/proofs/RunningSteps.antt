@@ -9,7 +9,7 @@ use Rattle.body_lang.specs.Run.{then_with}
 use Rattle.body_lang.specs.Meaning.{Calls}
 use Rattle.body_lang.specs.Stop.{Stop, fault}
 use Rattle.statement_set.specs.declared.given.Given.{Given}
-use Rattle.statement_set.specs.Problem.{Task, given_vars, var_count, IsWellFormed}
+use Rattle.statement_set.specs.Problem.{Task, given_vars, var_count, AreVars}
 use Rattle.proof_term.specs.declared.run_stop.RunStop.{RunStop}
 use Rattle.proof_term.specs.declared.run_stop.RunStop.TheVariants.{Fault, NoMem}
 use Rattle.proof_term.specs.declared.step.Step.{Step}
@@ -28,7 +28,7 @@ stops_along NoMem m n h a = tt
 module _ (p : Task) (steps : List Step) (i : ℕ) (s : Step) (lt : i < length steps) (is : s ≡ get_or steps i s) where
   -- what its calls are answered by
   abbrev pub answered : Env → Calls
-  answered e k arguments rest = called p (subs_of s.subs) (statement_at p s.stmt).subs k e arguments rest
+  answered e = called p (subs_of s.subs) (statement_at p s.stmt).subs e
 
   opened : steps_of (drop i steps) ≡ step s.stmt (subs_of s.subs) (steps_of (drop (i + 1) steps))
   opened = ap steps_of (drop_at steps i s lt is)
@@ -80,5 +80,5 @@ module _ (p : Task) (items : List Given) (i : ℕ) (g : Given) (v : ℕ) (same :
   pub given_read : v ≡ get_or (given_vars p) i v
   given_read = subst (λ w. w ≡ get_or (given_vars p) i w) (sym its) (var_read p.givens i g (omega (arith, lt, ap length same)) in_problem)
 
-  pub given_below : IsWellFormed p → v < var_count p
-  given_below good = subst (λ w. w < var_count p) (sym given_read) (All-get_or (λ w. w < var_count p) (given_vars p) i v within_givens good.givens)
+  pub given_below : AreVars (var_count p) (given_vars p) → v < var_count p
+  given_below vars = subst (λ w. w < var_count p) (sym given_read) (All-get_or (λ w. w < var_count p) (given_vars p) i v within_givens vars)

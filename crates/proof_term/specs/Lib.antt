@@ -1,10 +1,7 @@
 pub mod Proof
-pub mod Coding
 pub mod Plain
-pub mod Falls
-pub mod HasNoCall
-pub mod Agrees
-pub mod LocalValues
 pub mod Running
+pub mod RunExamples
 pub mod Bodies
 pub mod RunOf
+pub mod steps

@@ -18,7 +18,7 @@ pub struct Block {
 impl Model for Block {
     ghost use Rattle.std.specs.Prelude.{ℕ};
     ghost use Rattle.proof_term.specs.Proof.{Steps};
-    ghost use Rattle.proof_term.specs.Coding.{coded_steps};
+    ghost use Rattle.proof_term.specs.steps.Coding.{coded_steps};
 
     ghost Value = { Steps };
 
@@ -30,7 +30,7 @@ impl Model for Block {
 
     ghost size = { block_size };
 
-    ghost use Rattle.proof_term.specs.Falls.{size_falls};
+    ghost use Rattle.proof_term.specs.steps.Falls.{size_falls};
 
     ghost size_decreases = { λ b h. size_falls b.steps };
 }

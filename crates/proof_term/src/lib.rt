@@ -20,4 +20,6 @@ pub use laws::proof_derives;
 pub use run_stop::RunStop;
 pub use runner::run_block;
 pub use step::{Step, Sub};
-pub use worked::{squares_sum_proved, unknown_result_refused};
+pub use worked::{
+    nested_blocks_run, squares_sum_proved, two_outputs_proved, unknown_result_refused,
+};

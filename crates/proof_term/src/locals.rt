@@ -1,6 +1,6 @@
 ghost use Rattle.std.specs.Prelude.{◌≡◌, ◌+◌, length, slice_get, Some, IfOk, IfErr};
 ghost use Rattle.body_lang.specs.Values.{value_at};
-ghost use Rattle.proof_term.specs.LocalValues.{local_values};
+ghost use Rattle.proof_term.specs.steps.LocalValues.{local_values};
 
 use priz_frac::Frac;
 

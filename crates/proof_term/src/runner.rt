@@ -7,12 +7,12 @@ ghost use Rattle.priz_frac.specs.Whole.{whole};
 ghost use Rattle.body_lang.specs.Meaning.{Calls, mean};
 ghost use Rattle.statement_set.specs.Problem.{IsPlain, var_count, given_vars};
 ghost use Rattle.proof_term.specs.Plain.{steps_of};
-ghost use Rattle.proof_term.specs.Agrees.{Agrees};
+ghost use Rattle.proof_term.specs.steps.Agrees.{Agrees};
 ghost use Rattle.proof_term.specs.Bodies.{first_without_body};
 ghost use Rattle.proof_term.specs.RunOf.{StopsAs};
 ghost use Rattle.proof_term.specs.Running.{start_of, with_values, run, one_step, statement_body, goal_values};
 
-use crate::evaluate::evaluate;
+use crate::evaluate::{Frame, evaluate};
 use crate::locals::Locals;
 use crate::numbers::value_at;
 use crate::{Block, RunStop, Step};
@@ -65,7 +65,6 @@ fn set_givens(problem: &Problem, values: &[Frac], env: &mut [Frac])
     requires env { length env.old ≡ var_count problem.now }
     ensures { env.new ≡ with_values env.old (given_vars problem.now) values.now }
 {
-    problem.is_well_formed();
     for (i, given) in problem.givens().iter().enumerate() {
         env[given.var.0 as usize] = values[i];
     }
@@ -111,14 +110,13 @@ fn run_step(
     requires body { IsSomeAnd (slice_get problem.now.statements stmt) (λ s. IsSome s.body) }
     requires env { length env.old ≡ var_count problem.now }
     requires plain { IsPlain problem.now }
-    ensures next { IfOk result (λ left. (answer : Calls) → one_step problem.now stmt answer env.old turns ≡ Ok (env.new, left)) }
+    ensures next { IfOk result (λ left. (calls : Calls) → one_step problem.now stmt calls env.old turns ≡ Ok (env.new, left)) }
     ensures room { length env.new ≡ length env.old }
-    ensures stop { IfErr result (λ e. (answer : Calls) → StopsAs e (one_step problem.now stmt answer env.old turns)) }
+    ensures stop { IfErr result (λ e. (calls : Calls) → StopsAs e (one_step problem.now stmt calls env.old turns)) }
 {
     if turns == 0 {
         return Err(fault(stmt, RunFault::Turns));
     }
-    problem.is_well_formed();
     let inputs = values_at(alloc, env, problem.inputs(stmt))?;
     let output = problem.output(stmt);
     match value_of(problem, stmt, inputs.as_slice(), turns - 1) {
@@ -139,11 +137,17 @@ fn value_of(
 ) -> Result<(Frac, u32), RunFault>
     requires body { IsSomeAnd (slice_get problem.now.statements stmt) (λ s. IsSome s.body) }
     requires plain { IsPlain problem.now }
-    ensures { (answer : Calls) → Agrees stmt result (mean narrowly stmt answer (statement_body problem.now stmt) inputs.now [] turns) }
+    ensures { (calls : Calls) → Agrees stmt result
+        (mean narrowly stmt calls inputs.now (statement_body problem.now stmt) [] turns) }
 {
-    problem.is_well_formed();
-    let body = problem.body(stmt).unwrap();
-    evaluate(body, inputs, &Locals::Outermost, turns)
+    let statement = problem.statement(stmt);
+    let body = statement.body.as_ref().unwrap();
+    let locals = Locals::Outermost;
+    let frame = Frame {
+        inputs: &*inputs,
+        locals: &locals,
+    };
+    evaluate(body, &frame, turns)
 }
 
 fn fault(stmt: u32, kind: RunFault) -> RunStop

@@ -20,12 +20,12 @@ pub struct Closure<'p> {
 
 impl<'p> Model for Closure<'p> {
     ghost use Rattle.std.specs.Coded.{codes};
-    ghost use Rattle.body_lang.specs.contracts.body.Body as body;
+    ghost use Rattle.body_lang.specs.steps.Coding.{coded_body};
     ghost use Rattle.saturate.specs.Ready.{Progress};
 
     ghost Value = { Progress };
 
-    ghost coded = { Prim.hlevel (codes, body.the_row.coded) };
+    ghost coded = { Prim.hlevel (codes, coded_body) };
 
     ghost view = { λ c. record { task = c.problem.now; known = c.known } };
 
@@ -53,7 +53,7 @@ impl<'p> Closure<'p> {
         ensures task { self.new.task ≡ self.old.task }
         ensures known { Adds self.old.known self.new.known v }
     {
-        self.problem.is_well_formed();
+        prove!(v.0 < self.problem.vars());
         self.known.add(v);
     }
 

@@ -1,30 +1,49 @@
 -- What it takes to force a statement's formula, without formulas.
 use Rattle.std.proofs.Common.{◌≡◌, ◌↔◌, ℕ, List, [], ◌∷◌, ◌++◌, refl, subst, sym, ⊎_elim}
 use Rattle.std.specs.Prelude.{Contains, All, map}
-use Rattle.std.proofs.lemmas.List.Elements.{All-nil, All-cons, All-contains, All-append, All-map}
+use Rattle.std.proofs.lemmas.List.Elements.{All-nil, All-cons, All-head, All-tail, All-contains, All-append, All-map}
 use Rattle.priz_base.specs.Sets.{IsWithin}
 use Rattle.priz_base.proofs.Members.{contains_here, contains_cases, contains_none}
 use Rattle.statement_set.specs.declared.subtask.Subtask.{Subtask}
 use Rattle.statement_set.specs.declared.statement.Statement.{Statement}
-use Rattle.statement_set.specs.Problem.{Task, var_count, AreVars}
-use Rattle.statement_set.specs.Formula.{atom, atoms, statement_formula, subtask_formula}
+use Rattle.statement_set.specs.Problem.{Task, var_count, AreVars, results}
+use Rattle.statement_set.specs.Formula.{atom, atoms, and_more, conjunction, statement_formula, subtask_formula}
 use Rattle.statement_set.specs.Forcing.{World, forces}
 use Rattle.statement_set.specs.Countermodel.{IsCountermodelFrom, RefutesAlone}
 use Rattle.statement_set.proofs.Lists.{each, all_left, all_right, all_of_map}
 use Rattle.statement_set.proofs.Models.{forces_chain, chain_forces}
 
--- at world u above w the subtask's output is true if its inputs are
+-- at world u above w the subtask's results are true if its inputs are
 abbrev pub SubObeys : World → Subtask → World → Type 0
-SubObeys w t u = IsWithin w u → IsWithin t.inputs u → Contains u t.output
+SubObeys w t u = IsWithin w u → IsWithin t.inputs u → IsWithin (results t) u
 
 -- at world u above w the statement's output is true if its inputs are, and its subtasks are forced
 abbrev pub Obeys : List World → World → Statement → World → Type 0
 Obeys L w s u = IsWithin w u → IsWithin s.inputs u → All (λ t. forces L u (subtask_formula t)) s.subs → Contains u s.output
 
+-- a conjunction is forced where its variables are members
+more_forced : (L : List World) (u : World) (v : ℕ) (ws : List ℕ) → IsWithin (v ∷ ws) u → forces L u (and_more v ws)
+more_forced L u v [] i = All-head (Contains u) v [] i
+more_forced L u v (w ∷ ws) i = (All-head (Contains u) v (w ∷ ws) i, more_forced L u w ws (All-tail (Contains u) v (w ∷ ws) i))
+
+more_within : (L : List World) (u : World) (v : ℕ) (ws : List ℕ) → forces L u (and_more v ws) → IsWithin (v ∷ ws) u
+more_within L u v [] f = All-cons (Contains u) v [] f (All-nil (Contains u))
+more_within L u v (w ∷ ws) f = All-cons (Contains u) v (w ∷ ws) f.0 (more_within L u w ws f.1)
+
+all_forced : (L : List World) (u : World) (vs : List ℕ) → IsWithin vs u → forces L u (conjunction vs)
+all_forced L u [] i = λ x c j f. f
+all_forced L u (v ∷ vs) i = more_forced L u v vs i
+
+all_within : (L : List World) (u : World) (vs : List ℕ) → forces L u (conjunction vs) → IsWithin vs u
+all_within L u [] f = All-nil (Contains u)
+all_within L u (v ∷ vs) f = more_within L u v vs f
+
 pub subtask_forced : (L : List World) (w : World) (t : Subtask) → Contains L w → All (SubObeys w t) L ↔ forces L w (subtask_formula t)
 subtask_forced L w t c = (
-  λ h. forces_chain L (atoms t.inputs) (atom t.output) w (λ u k i g. All-contains (SubObeys w t) L u h k i (all_of_map (forces L u) atom t.inputs g)) c,
-  λ f. each (SubObeys w t) L (λ u k i g. chain_forces L (atoms t.inputs) (atom t.output) w u f k i (All-map (forces L u) atom t.inputs g)),
+  λ h. forces_chain L (atoms t.inputs) (conjunction (results t)) w
+      (λ u k i g. all_forced L u (results t) (All-contains (SubObeys w t) L u h k i (all_of_map (forces L u) atom t.inputs g))) c,
+  λ f. each (SubObeys w t) L
+      (λ u k i g. all_within L u (results t) (chain_forces L (atoms t.inputs) (conjunction (results t)) w u f k i (All-map (forces L u) atom t.inputs g))),
 )
 
 pub statement_forced : (L : List World) (w : World) (s : Statement) → Contains L w → All (Obeys L w s) L ↔ forces L w (statement_formula s)

@@ -1,3 +1,4 @@
+pub mod StatementTree
 pub mod Problem
 pub mod Formula
 pub mod Derivation

@@ -19,4 +19,5 @@ pub use statement::Statement;
 pub use subtask::{SubView, Subtask};
 pub use worked::{
     last_world_needs_the_first, peirce_refuted, squares_sum_derived, squares_sum_formula,
+    two_outputs_formula,
 };

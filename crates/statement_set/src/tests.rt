@@ -1,4 +1,5 @@
 use crate::{Given, Problem, Statement};
+use body_lang::{Body, Equation};
 use priz_base::Var;
 use sqlite_items::Items;
 use std::test::Fail;
@@ -22,5 +23,17 @@ fn what_was_added_is_shown(rt: HostRuntime) -> Result<(), Fail> {
     let shown = (p.vars(), n, p.subs(n), p.givens().len(), p.wants().len());
     assert_eq!(rt; shown, (1, 0, 0, 1, 1));
     assert_eq!(rt; p.find("x"), Some(v));
+    Ok(())
+}
+
+#[test]
+fn equations_are_kept(rt: HostRuntime) -> Result<(), Fail> {
+    let mut p = Problem::new(rt.alloc());
+    p.add_var("x")?;
+    p.add_equation(Equation {
+        left: Body::Input(0),
+        right: Body::Input(0),
+    })?;
+    assert_eq!(rt; p.equations().len(), 1);
     Ok(())
 }

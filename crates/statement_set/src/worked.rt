@@ -1,15 +1,22 @@
 // Worked instances: each definition on a small problem. They have no code.
 
 ghost use Rattle.std.specs.Prelude.{◌≡◌, [], ◌∷◌, slice_get, map};
-ghost use Rattle.statement_set.specs.Formula.{atom, imp, statement_formula};
+ghost use Rattle.statement_set.specs.Formula.{atom, imp, and, statement_formula};
 ghost use Rattle.statement_set.specs.Derivation.{derives};
 ghost use Rattle.statement_set.specs.Goal.{hypotheses, IsDerivable};
 ghost use Rattle.statement_set.specs.Countermodel.{IsCountermodel};
-ghost use Rattle.statement_set.specs.Worked.{squares_sum, squares_tree, peirce};
+ghost use Rattle.statement_set.specs.Worked.{squares_sum, squares_tree, two_outputs, peirce};
 
 /// A statement with a subtask: the program from x to y, then n, give t.
 pub fn squares_sum_formula()
-    ensures { slice_get (map statement_formula squares_sum.statements) 1 ≡ Some (imp (imp (atom 0) (atom 1)) (imp (atom 2) (atom 3))) }
+    ensures { slice_get (map statement_formula squares_sum.statements) 1
+        ≡ Some (imp (imp (atom 0) (atom 1)) (imp (atom 2) (atom 3))) }
+{}
+
+/// A subtask with two outputs: the program from x to y and z, then n, give t.
+pub fn two_outputs_formula()
+    ensures { slice_get (map statement_formula two_outputs.statements) 3
+        ≡ Some (imp (imp (atom 0) (and (atom 1) (atom 2))) (imp (atom 3) (atom 4))) }
 {}
 
 /// A derivation of t, and so of the goal.

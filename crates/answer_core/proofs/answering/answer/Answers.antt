@@ -3,7 +3,7 @@ use Rattle.statement_set.specs.Problem.{given_vars}
 use Rattle.statement_set.proofs.Models.{refutes}
 use Rattle.proof_term.proofs.Blocks.{derivable}
 use Rattle.answer_core.specs.declared.search.Found.{Found}
-use Rattle.answer_core.specs.Found.{IsFound}
+use Rattle.answer_core.specs.steps.Found.{IsFound}
 use Rattle.answer_core.proofs.answering.answer.Goals as goal
 
 pub returns-in_ok-values-in-Derived : goal.returns-in_ok-values-in-Derived

@@ -7,7 +7,7 @@ use Rattle.statement_set.specs.Problem.{Task, given_vars, var_count}
 use Rattle.proof_term.specs.Proof.{Steps, proves}
 use Rattle.proof_term.proofs.Pushes.{proves_fewer}
 use Rattle.saturate.specs.Ready.{Progress, ReadyAt}
-use Rattle.answer_core.proofs.Learnt.{same_within, same_within_back, all_within, kept_within, output_below, less, vars_more, proof_more, in_range, refused}
+use Rattle.answer_core.proofs.Learnt.{same_within, same_within_back, kept_within, less, vars_more, proof_more, in_range, refused}
 use Rattle.answer_core.proofs.search.search.Goals as goal
 
 pub learning-init : goal.learning-init
@@ -18,7 +18,7 @@ learning-init c =
     record {
       task = c.learn_givens.ensures.task;
       given = same_within_back known (given_vars p) same;
-      vars = all_within (λ v. v < var_count p) known (given_vars p) (same_within known (given_vars p) same) c.is_well_formed.ensures.givens;
+      vars = c.learn_givens.ensures.vars;
       proof = subst (λ (b : Steps). proves p (given_vars p) b known) (sym c.new-block.ensures) (same_within known (given_vars p) same);
     }
 
@@ -27,7 +27,7 @@ returns-in_default c =
     let p = c.args.problem.now in
     let known = c.learning.closure.known in
     let wanted = c.set_of-wanted.result in
-    let same = λ (n : ℕ). subst (λ (vs : List ℕ). Contains wanted n ↔ Contains vs n) c.wants.ensures (c.set_of-wanted.ensures n) in
+    let same = λ (n : ℕ). subst (λ (vs : List ℕ). Contains wanted n ↔ Contains vs n) c.wants.ensures.list (c.set_of-wanted.ensures n) in
     let world = refused p known c.requires c.learning.invariant.vars c.learning.invariant.given
     (λ h. not_so c.is_within.result c.is_within.ensures c.learning-test.true
     (subst (λ (k : List ℕ). IsWithin wanted k) (sym c.known.ensures) (within_trans wanted p.wants known (same_within wanted p.wants same) h)))
@@ -42,11 +42,8 @@ output-requires c =
 
 pub learn-requires : goal.learn-requires
 learn-requires c =
-    let p = c.args.problem.now in
-    let known = c.learning.closure.known in
-    let ready = subst (λ (t : Task). ReadyAt t known c.in-Some.n) c.learning.invariant.task c.in-Some.ensures.which.ready in
     let task = ap (λ (q : Progress). q.task) c.next.ensures.same ∙ c.learning.invariant.task in
-    subst (λ (t : Task). c.output.result < var_count t) (sym task) (output_below p known known c.in-Some.n c.output.result ready c.output.ensures c.is_well_formed.ensures)
+    subst (λ (t : Task). c.output.result < var_count t) (sym task) c.output.ensures.var
 
 pub learning-smaller : goal.learning-smaller
 learning-smaller c =
@@ -55,7 +52,7 @@ learning-smaller c =
     let new = c.learn.new.self.known in
     let ready = subst (λ (t : Task). ReadyAt t known c.in-Some.n) c.learning.invariant.task c.in-Some.ensures.which.ready in
     let adds = subst (λ (k : List ℕ). Adds k new c.output.result) (ap (λ (q : Progress). q.known) c.next.ensures.same) c.learn.ensures.known in
-    less p known new c.in-Some.n c.output.result ready c.output.ensures adds
+    less p known new c.in-Some.n c.output.result ready c.output.ensures.which adds
 
 pub learning-preserved : goal.learning-preserved
 learning-preserved c =
@@ -69,8 +66,8 @@ learning-preserved c =
     record {
       task = c.learn.ensures.task ∙ ap (λ (q : Progress). q.task) c.next.ensures.same ∙ c.learning.invariant.task;
       given = kept_within (given_vars p) known new out adds c.learning.invariant.given;
-      vars = vars_more p known new n out ready c.output.ensures (var_count p) c.learning.invariant.vars (output_below p known new n out ready c.output.ensures c.is_well_formed.ensures) adds;
-      proof = let h = proof_more p known new n out ready c.output.ensures (given_vars p) c.learning.block c.learning.invariant.proof adds in
+      vars = vars_more p known new n out ready c.output.ensures.which (var_count p) c.learning.invariant.vars c.output.ensures.var adds;
+      proof = let h = proof_more p known new n out ready c.output.ensures.which (given_vars p) c.learning.block c.learning.invariant.proof adds in
           rw (c.in_ok-push.ensures.ok, c.new-in-learning.ensures) h;
     }
 
@@ -79,7 +76,7 @@ returns c =
     let p = c.args.problem.now in
     let known = c.learning.closure.known in
     let wanted = c.set_of-wanted.result in
-    let same = λ (n : ℕ). subst (λ (vs : List ℕ). Contains wanted n ↔ Contains vs n) c.wants.ensures (c.set_of-wanted.ensures n) in
+    let same = λ (n : ℕ). subst (λ (vs : List ℕ). Contains wanted n ↔ Contains vs n) c.wants.ensures.list (c.set_of-wanted.ensures n) in
     proves_fewer p (given_vars p) c.learning.block p.wants known
     (within_trans p.wants wanted known (same_within_back wanted p.wants same)
     (subst (λ (k : List ℕ). IsWithin wanted k) c.known.ensures (c.is_within.ensures.0 c.learning-test.false)))

@@ -1,6 +1,6 @@
 use Rattle.std.proofs.Common.{◌≡◌, Bool, false, not, sym, ap, ◌∙◌}
 use Rattle.concept_unfold.specs.declared.fault.Rule.TheVariants as rule
-use Rattle.concept_unfold.specs.LoopNames.{loop_names}
+use Rattle.concept_unfold.specs.steps.LoopNames.{loop_names}
 use Rattle.body_lang.specs.Verdicts.{fault_unless}
 use Rattle.concept_unfold.specs.BodyFault.{is_among, broken_at}
 use Rattle.concept_unfold.proofs.Among.{decided, in_neither}

@@ -37,6 +37,7 @@ loop-item-preserved c =
       variables = variables_more items i x c.loop-item-test.true c.item-item.is old.names new.names all c.loop-item.invariant.variables names;
       statements = statements_more items i x c.loop-item-test.true c.item-item.is f.0 old.names all old.statements new.statements (flat_map (statements_of all) (map item_tree items)) c.loop-item.invariant.variables known c.loop-item.invariant.statements statements;
       room = room_more items i x c.loop-item-test.true c.item-item.is old.names old.statements new.statements c.loop-item.invariant.room statements;
+      equations = ap (λ (p : Task). p.equations) e ∙ c.loop-item.invariant.equations;
       givens = ap (λ (p : Task). p.givens) e ∙ c.loop-item.invariant.givens;
       wants = ap (λ (p : Task). p.wants) e ∙ c.loop-item.invariant.wants;
     }

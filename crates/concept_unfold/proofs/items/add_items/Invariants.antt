@@ -16,6 +16,7 @@ invariant-loop-item l = record {
   follows : (names : List (List ℕ)) × All (Contains names) l.problem.names × AllHold (items_rows names l.problem.names (map item_tree (drop l.item-index l.items)));
   variables : l.problem.names ++ all_variables (map item_tree (drop l.item-index l.items)) ≡ all_variables (map item_tree l.items);
   statements : l.problem.statements ++ flat_map (statements_of (all_variables (map item_tree l.items))) (map item_tree (drop l.item-index l.items)) ≡ flat_map (statements_of (all_variables (map item_tree l.items))) (map item_tree l.items);
+  equations : l.problem.equations ≡ [];
   room : length l.problem.statements + sum_by item_statements (map item_tree (drop l.item-index l.items)) ≤ max_statements;
   givens : l.problem.givens ≡ [];
   wants : l.problem.wants ≡ [];

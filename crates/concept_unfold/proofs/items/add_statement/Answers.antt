@@ -1,7 +1,9 @@
 use Rattle.std.proofs.Common.{List, length, sym, ap, ◌∙◌, subst}
 use Rattle.std.specs.Prelude.{All}
+use Rattle.std.specs.Option.{option_map}
 use Rattle.std.proofs.lemmas.List.{length-map}
 use Rattle.std.proofs.lemmas.List.Elements.{All-nil}
+use Rattle.body_lang.specs.View.{body_tree}
 use Rattle.statement_set.specs.declared.subtask.Subtask.{Subtask}
 use Rattle.statement_set.specs.declared.statement.Statement.{Statement}
 use Rattle.statement_set.specs.Problem.{var_count, IsSubtaskOver}
@@ -21,7 +23,7 @@ add_statement-requires-clause-vars c =
     let tree = body_expr_tree c.args.body.now in
     let count = ap length c.in_ok-inputs.ensures.numbers ∙ length-map (inputs_of parts) (var_number names) in
     let good = body_passes parts tree (length inputs) c.requires.built c.requires.body count in
-    let made : Statement = record { inputs = inputs; subs = c.new-subs.result; output = c.var_of-output.result; body = c.in_ok-body.body } in
+    let made : Statement = record { inputs = inputs; subs = c.new-subs.result; output = c.var_of-output.result; body = option_map body_tree c.in_ok-body.body } in
     record {
       inputs = c.in_ok-inputs.ensures.below;
       subs = subst (λ (us : List Subtask). All (IsSubtaskOver n) us) (sym c.new-subs.ensures) (All-nil (IsSubtaskOver n));

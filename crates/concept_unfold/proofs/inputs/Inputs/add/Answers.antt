@@ -1,5 +1,5 @@
 use Rattle.std.proofs.Common.{refl, sym, subst}
-use Rattle.concept_unfold.specs.InputPlaces.{ArePlaces}
+use Rattle.concept_unfold.specs.steps.InputPlaces.{ArePlaces}
 use Rattle.concept_unfold.specs.contracts.inputs.Inputs.{the_view}
 use Rattle.concept_unfold.proofs.FirstPlaces.{places_kept, places_added}
 use Rattle.concept_unfold.proofs.inputs.Inputs.add.Goals as goal

@@ -1,6 +1,6 @@
 use Rattle.std.proofs.Common.{sym, subst, take, ◌+◌, arith}
 use Rattle.concept_unfold.specs.Paths.{input_names}
-use Rattle.concept_unfold.specs.InputPlaces.{ArePlaces}
+use Rattle.concept_unfold.specs.steps.InputPlaces.{ArePlaces}
 use Rattle.concept_unfold.proofs.FirstPlaces.{few_inputs, inputs_more}
 use Rattle.concept_unfold.proofs.inputs.Inputs.of.Goals as goal
 

@@ -1,6 +1,6 @@
 use Rattle.std.proofs.Common.{◌≤◌, take}
 use Rattle.concept_unfold.specs.Paths.{input_names}
-use Rattle.concept_unfold.specs.InputPlaces.{ArePlaces}
+use Rattle.concept_unfold.specs.steps.InputPlaces.{ArePlaces}
 use Rattle.concept_unfold.proofs.inputs.Inputs.of.Given as goal
 
 -- the inputs among the parts so far

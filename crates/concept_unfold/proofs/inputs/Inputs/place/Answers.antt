@@ -1,5 +1,5 @@
 use Rattle.std.proofs.Common.{sym, ◌∙◌, subst}
-use Rattle.concept_unfold.specs.InputPlaces.{ArePlaces}
+use Rattle.concept_unfold.specs.steps.InputPlaces.{ArePlaces}
 use Rattle.concept_unfold.proofs.FirstPlaces.{missing}
 use Rattle.concept_unfold.proofs.inputs.Inputs.place.Goals as goal
 

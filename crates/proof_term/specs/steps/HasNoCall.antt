@@ -12,4 +12,4 @@ HasNoCall (choice c a b p q) = HasNoCall a × (HasNoCall b × (HasNoCall p × Ha
 HasNoCall (total a b e) = HasNoCall a × (HasNoCall b × HasNoCall e)
 HasNoCall (product a b e) = HasNoCall a × (HasNoCall b × HasNoCall e)
 HasNoCall (iterate a b e) = HasNoCall a × (HasNoCall b × HasNoCall e)
-HasNoCall (call k args) = ⊥
+HasNoCall (call k out args) = ⊥

@@ -1,0 +1,2 @@
+-- What only private functions and the kit ask for.
+pub mod Coding

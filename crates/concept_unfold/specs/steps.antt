@@ -1,0 +1,3 @@
+-- What only private functions ask for.
+pub mod InputPlaces
+pub mod LoopNames
