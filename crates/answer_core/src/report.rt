@@ -1,4 +1,7 @@
-ghost use Rattle.std.specs.Prelude.{◌≡◌, ◌≤◌, [], ◌∷◌, ◌++◌, length, OnOk};
+#![tactic(auto, using(priz_base::proofs::Kept::kept))]
+
+ghost use Rattle.std.specs.Prelude.{◌≡◌, ◌≤◌, [], ◌∷◌, ◌++◌, length};
+ghost use Rattle.priz_base.specs.Printing.{Prints};
 ghost use Rattle.answer_core.specs.declared.effort.Effort.{Effort};
 ghost use Rattle.answer_core.specs.Answers.{IsAnswer};
 ghost use Rattle.answer_core.specs.Report.{head_text, value_line, value_lines, fault_line, values_text, answer_text};
@@ -23,7 +26,7 @@ pub fn render(
 ) -> Result<(), NoMem>
     requires index { 1 ≤ index }
     requires answer { (effort : Effort) × IsAnswer problem.now effort answer.now }
-    ensures { OnOk result (out.new.items ≡ out.old.items ++ answer_text problem.now index answer.now) }
+    ensures { Prints (answer_text problem.now index answer.now) result out.old.items out.new.items }
 {
     problem.is_well_formed();
     write_head(index, out)?;
@@ -35,17 +38,18 @@ pub fn render(
         } => {
             out.extend_from_slice(separate_text(*separate))?;
             write_proof(block, out)?;
-            write_values(problem, values, out)
+            write_values(problem, values, out)?;
         }
         Answer::NoProgram { worlds } => {
             out.extend_from_slice(b"no program\n")?;
-            write_worlds(problem.vars(), worlds, out)
+            write_worlds(problem.vars(), worlds, out)?;
         }
     }
+    Ok(())
 }
 
 fn write_head(index: u32, out: &mut Vec<u8>) -> Result<(), NoMem>
-    ensures { OnOk result (out.new.items ≡ out.old.items ++ head_text index) }
+    ensures { Prints (head_text index) result out.old.items out.new.items }
 {
     out.extend_from_slice(b"compute ")?;
     out.extend_from_slice(Buffer::new().format(index).as_bytes())?;
@@ -55,7 +59,7 @@ fn write_head(index: u32, out: &mut Vec<u8>) -> Result<(), NoMem>
 
 fn write_values(problem: &Problem, values: &Values, out: &mut Vec<u8>) -> Result<(), NoMem>
     requires { HasNames problem.now values.now }
-    ensures { OnOk result (out.new.items ≡ out.old.items ++ values_text problem.now values.now) }
+    ensures { Prints (values_text problem.now values.now) result out.old.items out.new.items }
 {
     match values {
         Values::All(values) => write_all_values(problem, values.as_slice(), out),
@@ -70,7 +74,8 @@ fn write_values(problem: &Problem, values: &Values, out: &mut Vec<u8>) -> Result
 
 fn write_all_values(problem: &Problem, values: &[Frac], out: &mut Vec<u8>) -> Result<(), NoMem>
     requires { length values.now ≡ length problem.now.wants }
-    ensures { OnOk result (out.new.items ≡ out.old.items ++ value_lines problem.now problem.now.wants values.now) }
+    ensures { Prints (value_lines problem.now problem.now.wants values.now) result
+        out.old.items out.new.items }
 {
     for (i, want) in problem.wants().iter().enumerate() {
         write_value(problem.name(*want), values[i], out)?;
@@ -79,7 +84,7 @@ fn write_all_values(problem: &Problem, values: &[Frac], out: &mut Vec<u8>) -> Re
 }
 
 fn write_value(name: &str, value: Frac, out: &mut Vec<u8>) -> Result<(), NoMem>
-    ensures { OnOk result (out.new.items ≡ out.old.items ++ value_line name.now value) }
+    ensures { Prints (value_line name.now value) result out.old.items out.new.items }
 {
     out.extend_from_slice(name.as_bytes())?;
     out.extend_from_slice(b" = ")?;
@@ -89,15 +94,16 @@ fn write_value(name: &str, value: Frac, out: &mut Vec<u8>) -> Result<(), NoMem>
 }
 
 fn write_fault(stmt: u32, kind: RunFault, out: &mut Vec<u8>) -> Result<(), NoMem>
-    ensures { OnOk result (out.new.items ≡ out.old.items ++ fault_line stmt kind) }
+    ensures { Prints (fault_line stmt kind) result out.old.items out.new.items }
 {
     out.extend_from_slice(b"fault: statement ")?;
     out.extend_from_slice(Buffer::new().format(stmt).as_bytes())?;
-    write_line(b": ", fault_text(kind), out)
+    write_line(b": ", fault_text(kind), out)?;
+    Ok(())
 }
 
 fn write_line(front: &[u8], back: &[u8], out: &mut Vec<u8>) -> Result<(), NoMem>
-    ensures { OnOk result (out.new.items ≡ out.old.items ++ (front.now ++ (back.now ++ 10 ∷ []))) }
+    ensures { Prints (front.now ++ (back.now ++ 10 ∷ [])) result out.old.items out.new.items }
 {
     out.extend_from_slice(front)?;
     out.extend_from_slice(back)?;

@@ -232,9 +232,9 @@ mutual
   canonical_factor_printed (call k place first more) =
       let p = (canonical_expr_printed first).alone in
       let q = canonical_exprs_printed more in
-      let body = spelt-cons (symbols.sub (pos k) place) (spelt-cons (symbols.mark marks.OpenRound) (spelt-append p (spelt-append q (spelt-cons (symbols.mark marks.CloseRound) spelt-nil)))) in
+      let body = spelt-cons (symbols.sub (pos k.0) (pos k.1) place) (spelt-cons (symbols.mark marks.OpenRound) (spelt-append p (spelt-append q (spelt-cons (symbols.mark marks.CloseRound) spelt-nil)))) in
       let e = append_assoc (pieces_at Alone (see_expr first)) (more_pieces (see_exprs more)) (mark_piece marks.CloseRound ∷ []) in
-      factor_printed _ _ (λ at. spelt-same (ap (λ qs. sub_piece (pos k) ∷ mark_piece marks.OpenRound ∷ qs) e) body)
+      factor_printed _ _ (λ at. spelt-same (ap (λ qs. sub_piece (pos k.0) (pos k.1) ∷ mark_piece marks.OpenRound ∷ qs) e) body)
   canonical_factor_printed (loop kind n first second each) =
       let p = (canonical_expr_printed first).alone in
       let q = (canonical_expr_printed second).alone in
@@ -309,10 +309,10 @@ kind_spelt (component n binds) = spelt-cons (symbols.name n) (spelt-append (bind
 -- a part of a relation
 part_spelt : (p : WrittenPart) → Spelt (spell_part p) (part_pieces (see_part p))
 part_spelt (input p) = path_spelt p
-part_spelt (subtask inputs output) =
+part_spelt (subtask inputs outputs) =
     let shut = spelt-cons (symbols.mark marks.CloseSquare) spelt-nil in
-    let e = append_assoc (paths_pieces (map see_path (all_of inputs))) (mark_piece marks.Arrow ∷ path_pieces (see_path output)) (mark_piece marks.CloseSquare ∷ []) in
-    let a = spelt-cons (symbols.mark marks.OpenSquare) (spelt-append (paths_spelt inputs) (spelt-cons (symbols.mark marks.Arrow) (spelt-append (path_spelt output) shut))) in
+    let e = append_assoc (paths_pieces (map see_path (all_of inputs))) (mark_piece marks.Arrow ∷ paths_pieces (map see_path (all_of outputs))) (mark_piece marks.CloseSquare ∷ []) in
+    let a = spelt-cons (symbols.mark marks.OpenSquare) (spelt-append (paths_spelt inputs) (spelt-cons (symbols.mark marks.Arrow) (spelt-append (paths_spelt outputs) shut))) in
     spelt-same (ap (λ qs. mark_piece marks.OpenSquare ∷ qs) e) a
 
 -- parts, if there are any

@@ -76,7 +76,7 @@ mutual
   canonical_factor_seen (call k place first more) =
       let p = (canonical_expr_seen first).expr in
       let q = canonical_exprs_seen more in
-      factor_means _ _ (λ i. tree.call (pos k) place (tree.more (p i) (q i)))
+      factor_means _ _ (λ i. tree.call (pos k.0) (pos k.1) place (tree.more (p i) (q i)))
   canonical_factor_seen (loop kind n first second each) =
       let p = (canonical_expr_seen first).expr in
       let q = (canonical_expr_seen second).expr in

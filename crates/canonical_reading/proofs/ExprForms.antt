@@ -84,8 +84,8 @@ turns_form kind n ta tb te pa pb pe h a b e =
     let g = asks free (joins head tail refl) refl in g
 
 -- a call
-call_form : (k : ℤ) (text : List ℕ) (ps : List Piece) → PrintableNumber k → Operand text ps → Operand (call_text k text) (called_pieces k ps)
-call_form k text ps h f = let g = asks free (joins (sub_form k h) (joins open_form (joins f close_form refl) refl) refl) refl in g
+call_form : (k out : ℤ) (text : List ℕ) (ps : List Piece) → PrintableNumber k → PrintableNumber out → Operand text ps → Operand (call_text k out text) (called_pieces k out ps)
+call_form k out text ps h o f = let g = asks free (joins (sub_form k out h o) (joins open_form (joins f close_form refl) refl) refl) refl in g
 
 -- an argument behind another, and those behind it
 more_form : (ta tb : List ℕ) (pa pb : List Piece) → Operand ta pa → Form free free tb pb → Form free free (codes ", " ++ (ta ++ tb)) (mark_piece marks.Comma ∷ (pa ++ pb))
@@ -105,7 +105,7 @@ mutual
       round_form (rounds_choice p) _ _ (choice_form c (text_at Compared a) (text_at Compared b) (text_at Alone t) (text_at Alone e) (pieces_at Compared a) (pieces_at Compared b) (pieces_at Alone t) (pieces_at Alone e) (tree_form Compared a h.0) (tree_form Compared b h.1) (tree_form Alone t h.2) (tree_form Alone e h.3))
   tree_form p (loop kind n a b e) h =
       turns_form kind n (text_at Alone a) (text_at Alone b) (text_at Alone e) (pieces_at Alone a) (pieces_at Alone b) (pieces_at Alone e) h.0 (tree_form Alone a h.1) (tree_form Alone b h.2) (tree_form Alone e h.3)
-  tree_form p (call k place args) h = call_form k (args_text args) (args_pieces args) h.0 (args_form args h.1)
+  tree_form p (call k out place args) h = call_form k out (args_text args) (args_pieces args) h.0 h.1 (args_form args h.2)
 
   -- arguments joined by commas
   args_form : (ts : ExprTrees) → PrintableTrees ts → Form free anything (args_text ts) (args_pieces ts)

@@ -104,7 +104,7 @@ opens k [] rest s = absurd (spells_something k s)
 opens kinds.Name (c ∷ cs) rest s = opens_at c (cs ++ rest) _ _ refl refl (λ o. let e = sym (spells_lead kinds.Name c cs s) ∙ o in cc)
 opens (kinds.Word w) (c ∷ cs) rest s = opens_at c (cs ++ rest) _ _ refl refl (λ o. let e = sym (spells_lead (kinds.Word w) c cs s) ∙ o in cc)
 opens (kinds.Number i) (c ∷ cs) rest s = opens_at c (cs ++ rest) _ _ refl refl (λ o. let e = sym (spells_lead (kinds.Number i) c cs s) ∙ o in cc)
-opens (kinds.Sub i) (c ∷ cs) rest s = opens_at c (cs ++ rest) _ _ refl refl (λ o. let e = sym (spells_lead (kinds.Sub i) c cs s) ∙ o in cc)
+opens (kinds.Sub i j) (c ∷ cs) rest s = opens_at c (cs ++ rest) _ _ refl refl (λ o. let e = sym (spells_lead (kinds.Sub i j) c cs s) ∙ o in cc)
 opens (kinds.Mark m) (c ∷ cs) rest s = subst (λ (l : List ℕ). past_gap false (l ++ rest) ≡ l ++ rest) (sym s) (mark_opens m rest)
 opens kinds.End (c ∷ cs) rest s = absurd s
 

@@ -64,15 +64,15 @@ binds_form (b ∷ bs) h =
 -- ---- parts
 
 -- what a subtask takes and gives
-task_form : (inputs : List Path) (output : Path) → AllByRecursion PrintablePath inputs → PrintablePath output → Form stops anything (task_text inputs output) (task_pieces inputs output)
-task_form [] output h o = let f = offers anything (joins (mark_space marks.Arrow refl) (path_form output o) refl) refl in f
-task_form (p ∷ ps) output h o = let f = joins (paths_form (p ∷ ps) h) (joins (spaced_mark marks.Arrow refl) (path_form output o) refl) refl in f
+task_form : (inputs outputs : List Path) → AllByRecursion PrintablePath inputs → SomeAndAll PrintablePath outputs → Form stops anything (task_text inputs outputs) (task_pieces inputs outputs)
+task_form [] outputs h o = let f = offers anything (joins (mark_space marks.Arrow refl) (paths_form outputs o) refl) refl in f
+task_form (p ∷ ps) outputs h o = let f = joins (paths_form (p ∷ ps) h) (joins (spaced_mark marks.Arrow refl) (paths_form outputs o) refl) refl in f
 
 -- a path, or a subtask in brackets
 part_form : (p : Part) → PrintablePart p → Form stops anything (part_text p) (part_pieces p)
 part_form (Input p) h = path_form p h
-part_form (Subtask inputs output) h =
-    let f = asks stops (offers anything (joins (mark_form marks.OpenSquare refl) (joins (task_form inputs output h.0 h.1) (mark_form marks.CloseSquare refl) refl) refl) refl) refl in f
+part_form (Subtask inputs outputs) h =
+    let f = asks stops (offers anything (joins (mark_form marks.OpenSquare refl) (joins (task_form inputs outputs h.0 h.1) (mark_form marks.CloseSquare refl) refl) refl) refl) refl in f
 
 -- nothing, or the parts and a space
 parts_form : (parts : List Part) → AllByRecursion PrintablePart parts → Form anything anything (parts_text parts) (parts_pieces parts)

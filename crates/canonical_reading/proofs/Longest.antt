@@ -1,13 +1,15 @@
 -- A name, a number, a keyword or a mark is the token that is read where what follows does not lengthen it.
-use Rattle.std.proofs.Common.{◌≡◌, ℕ, ◌<◌, ◌≤◌, ◌^◌, Bool, true, false, List, [], ◌∷◌, ◌++◌, length, Some, refl, sym, ap, subst, ◌∙◌, arith, rules, append_assoc, length-append}
-use Rattle.std.specs.Prelude.{pos}
+use Rattle.std.proofs.Common.{◌≡◌, ℕ, ◌<◌, ◌≤◌, ◌^◌, Bool, true, false, List, [], ◌∷◌, ◌++◌, length, Some, refl, sym, ap, subst, ◌∙◌, arith, rules, append_assoc, length-append, eqb, inl, inr, ⊎_elim}
+use Rattle.std.specs.Prelude.{◌⊎◌, ◌||◌, pos, if◌then◌else◌}
+use Rattle.std.specs.Ordering.{int_eq}
 use Rattle.std.specs.Char.{is_ascii_digit}
 use Rattle.std.specs.Fmt.{decimal}
 use Rattle.std.specs.List.{list_all}
 use Rattle.std.specs.Str.{encode_utf8_all}
 use Rattle.std.proofs.lemmas.Bool.{and_parts, both_ways}
 use Rattle.std.proofs.lemmas.Fmt.{digits_decimal, digits_value-decimal, decimal_nonempty}
-use Rattle.std.proofs.lemmas.List.{nil_from_length}
+use Rattle.std.proofs.lemmas.List.{nil_from_length, append-nil}
+use Rattle.std.proofs.lemmas.Bool.Decides.{Decides-int_eq}
 use Rattle.std.proofs.lemmas.List.Folds.{list_all-append}
 use Rattle.std.proofs.lemmas.Str.Parse.{IsNumeralModel, numerals_by_fold}
 use Rattle.utopist_lexer.specs.declared.word.Word.{Word}
@@ -18,9 +20,11 @@ use Rattle.utopist_lexer.specs.Characters.{is_continue}
 use Rattle.utopist_lexer.specs.Spelling.{word_text, mark_text}
 use Rattle.utopist_lexer.specs.Lexical.{IsIdentifier, AreDigits, value_behind, value_of, Spells, IsFree, IsToken, max_name, max_number}
 use Rattle.utopist_lexer.specs.Tables.{front_mark}
-use Rattle.utopist_lexer.specs.Cutting.{StopsAt}
+use Rattle.utopist_lexer.specs.Cutting.{StopsAt, IsUndotted}
 use Rattle.utopist_lexer.proofs.Spellings.{mark_greatest}
-use Rattle.utopist_lexer.proofs.Leads.{letter_lead, digit_lead, dollar_lead, spells_lead, spells_something, letter_identifier, digit_digits, dollar_digits, other_mark, word_identifier}
+use Rattle.utopist_lexer.proofs.Fronts.{sub_longest, dotted_longest}
+use Rattle.utopist_lexer.proofs.Leads.{letter_lead, digit_lead, spells_lead, spells_something, letter_identifier, digit_digits, other_mark, word_identifier}
+use Rattle.utopist_syntax.specs.ExprText.{sub_spelling}
 use Rattle.canonical_reading.proofs.Classes.{free_stops, stops_digits}
 
 -- ---- no longer front spells a token
@@ -48,12 +52,10 @@ digits_longest (c ∷ cs) rest d stops more after k e s =
     let j = digit_digits k (c ∷ (cs ++ more)) (sym (spells_lead k c (cs ++ more) s) ∙ digit_lead c first) s in
     no_more is_ascii_digit (c ∷ cs) rest more after stops e j.1
 
--- nor what goes on behind $ and digits
-sub_longest : (digits rest : List ℕ) → StopsAt is_ascii_digit rest → (more after : List ℕ) (k : Kind) → rest ≡ more ++ after → Spells k ((36 ∷ digits) ++ more) → more ≡ []
-sub_longest digits rest stops more after k e s =
-    let d = dollar_digits k (36 ∷ (digits ++ more)) (sym (spells_lead k 36 (digits ++ more) s) ∙ dollar_lead) s in
-    let same : digits ++ more ≡ d.0 = cc (d.1) in
-    no_more is_ascii_digit digits rest more after stops e (subst (λ (l : List ℕ). list_all is_ascii_digit l ≡ true) (sym same) d.2.1)
+-- what is free begins with no dot
+free_undotted : (rest : List ℕ) → IsFree rest → IsUndotted rest
+free_undotted [] f digits after e d = absurd cc
+free_undotted (c ∷ cs) f digits after e d = let same : c ≡ 46 = cc in both_ways true (subst (λ (x : ℕ). (eqb x 46 || is_continue x) ≡ false) same f) refl
 
 -- nor what goes on behind a mark that is found
 mark_longest : (m : Mark) (text rest : List ℕ) → text ≡ mark_text m → front_mark (text ++ rest) ≡ Some m → (more after : List ℕ) (k : Kind) → rest ≡ more ++ after → Spells k (text ++ more) → more ≡ []
@@ -118,9 +120,27 @@ number_token n rest h free = record {
   within = (free, λ m e. bound n m h e);
 }
 
--- $ and a number before what is free
-pub sub_token : (n : ℕ) (rest : List ℕ) → n ≤ max_number → IsFree rest → IsToken (kinds.Sub (pos n)) (36 ∷ decimal n) rest
-sub_token n rest h free = record {
-  longest = record { spelled = (decimal n, refl, decimal_digits n h, decimal_value n h); longest = sub_longest (decimal n) rest (stops_digits rest (free_stops rest free)) };
-  within = (free, λ m e. bound n m h e);
-}
+-- $ and a number, and that of an output where it isn't 1, before what is free
+pub sub_token : (n m : ℕ) (rest : List ℕ) → n ≤ max_number → m ≤ max_number → IsFree rest → IsToken (kinds.Sub (pos n) (pos m)) (sub_spelling (pos n) (pos m)) rest
+sub_token n m rest h i free = at (int_eq (pos m) (pos 1)) refl where
+  ends : StopsAt is_ascii_digit rest
+  ends = stops_digits rest (free_stops rest free)
+
+  bounds : (x : ℕ) → (pos n ≡ pos x) ⊎ (pos m ≡ pos x) → x ≤ max_number
+  bounds x e = ⊎_elim (λ a. bound n x h a) (λ b. bound m x i b) e
+
+  at : (b : Bool) → int_eq (pos m) (pos 1) ≡ b → IsToken (kinds.Sub (pos n) (pos m)) (36 ∷ (decimal n ++ (if b then [] else 46 ∷ decimal m))) rest
+  at true e = record {
+    longest = record {
+      spelled = record { digits = decimal n; behind = []; are = refl; some = decimal_digits n h; value = decimal_value n h; output = inl (refl, (Decides-int_eq (pos m) (pos 1)).0 e) };
+      longest = λ more after k a s. sub_longest (decimal n) rest (record { passes = (decimal_digits n h).1; stops = ends }) (free_undotted rest free) more after k a (subst (λ (l : List ℕ). Spells k ((36 ∷ l) ++ more)) (append-nil (decimal n)) s);
+    };
+    within = (free, bounds);
+  }
+  at false e = record {
+    longest = record {
+      spelled = record { digits = decimal n; behind = 46 ∷ decimal m; are = refl; some = decimal_digits n h; value = decimal_value n h; output = inr (decimal m, refl, decimal_digits m i, decimal_value m i) };
+      longest = dotted_longest (decimal n) (decimal m) rest (decimal_digits n h).1 (record { passes = (decimal_digits m i).1; stops = ends });
+    };
+    within = (free, bounds);
+  }

@@ -1,10 +1,11 @@
 -- Pieces as forms: keywords, marks, names and numbers, and blanks.
 use Rattle.std.proofs.Common.{◌≡◌, ℕ, ◌<◌, ◌≤◌, Bool, true, false, eqb, List, [], ◌∷◌, ◌++◌, length, Some, refl, sym, ap, subst, ◌∙◌, arith}
-use Rattle.std.specs.Prelude.{ℤ, pos, negsuc, suc, codes, unsigned_abs}
+use Rattle.std.specs.Prelude.{ℤ, pos, negsuc, suc, codes, unsigned_abs, if◌then◌else◌}
+use Rattle.std.specs.Ordering.{int_eq}
 use Rattle.std.specs.Fmt.{decimal, signed_decimal}
 use Rattle.std.specs.Str.{IsAscii, chars}
 use Rattle.std.proofs.lemmas.Fmt.{IsAscii-decimal}
-use Rattle.std.proofs.lemmas.Str.{IsUtf8-from_ascii, chars-IsAscii, chars-append, encodes-chars}
+use Rattle.std.proofs.lemmas.Str.{IsUtf8-from_ascii, IsAscii-append, chars-IsAscii, chars-append, encodes-chars}
 use Rattle.std.proofs.lemmas.Str.Ascii.{IsAscii-nil, IsAscii-cons}
 use Rattle.utopist_lexer.specs.declared.word.Word.{Word}
 use Rattle.utopist_lexer.specs.declared.mark.Mark.{Mark}
@@ -15,6 +16,7 @@ use Rattle.utopist_lexer.specs.Tables.{front_mark}
 use Rattle.utopist_lexer.specs.Cutting.{StopsAt}
 use Rattle.utopist_lexer.proofs.Leads.{word_ascii, mark_ascii}
 use Rattle.utopist_syntax.specs.Named.{Named}
+use Rattle.utopist_syntax.specs.ExprText.{out_text, sub_spelling}
 use Rattle.canonical_reading.specs.Piece.{Piece, word_piece, mark_piece, name_piece, number_piece, sub_piece, signed_pieces}
 use Rattle.canonical_reading.specs.Printable.{PrintableName, PrintableNumber}
 use Rattle.canonical_reading.proofs.Classes.{stops_ascii, free_ascii}
@@ -62,12 +64,20 @@ decimal_form n h = record {
       piece_lays free anything (number_piece (pos n)) (decimal n) rest qs (IsUtf8-from_ascii (decimal n) a) (chars-IsAscii (decimal n) a) (number_token n (chars rest) h l.front) tt l;
 }
 
--- $ and a natural number
-dollar_form : (n : ℕ) → n ≤ max_number → Form free anything (36 ∷ decimal n) (sub_piece (pos n) ∷ [])
-dollar_form n h = record {
+-- the number of an output is text of ASCII
+out_ascii : (m : ℕ) → m ≤ max_number → IsAscii (out_text (pos m))
+out_ascii m i = at (int_eq (pos m) (pos 1)) where
+  at : (b : Bool) → IsAscii (if b then [] else 46 ∷ decimal m)
+  at true = IsAscii-nil
+  at false = IsAscii-cons 46 (decimal m) (omega arith) (IsAscii-decimal m (small m i))
+
+-- $ and the numbers of a subtask and of an output
+dollar_form : (n m : ℕ) → n ≤ max_number → m ≤ max_number → Form free anything (sub_spelling (pos n) (pos m)) (sub_piece (pos n) (pos m) ∷ [])
+dollar_form n m h i = record {
   lays = λ rest qs l.
-      let a = IsAscii-cons 36 (decimal n) (omega arith) (IsAscii-decimal n (small n h)) in
-      piece_lays free anything (sub_piece (pos n)) (36 ∷ decimal n) rest qs (IsUtf8-from_ascii (36 ∷ decimal n) a) (chars-IsAscii (36 ∷ decimal n) a) (sub_token n (chars rest) h l.front) tt l;
+      let text = sub_spelling (pos n) (pos m) in
+      let a = IsAscii-cons 36 (decimal n ++ out_text (pos m)) (omega arith) (IsAscii-append (decimal n) (out_text (pos m)) (IsAscii-decimal n (small n h)) (out_ascii m i)) in
+      piece_lays free anything (sub_piece (pos n) (pos m)) text rest qs (IsUtf8-from_ascii text a) (chars-IsAscii text a) (sub_token n m (chars rest) h i l.front) tt l;
 }
 
 -- a number that is not negative
@@ -75,10 +85,11 @@ pub number_form : (z : ℤ) → PrintableNumber z → Form free anything (signed
 number_form (pos n) h = decimal_form n h
 number_form (negsuc n) h = absurd h
 
--- $ and a number that is not negative
-pub sub_form : (z : ℤ) → PrintableNumber z → Form free anything (36 ∷ signed_decimal z) (sub_piece z ∷ [])
-sub_form (pos n) h = dollar_form n h
-sub_form (negsuc n) h = absurd h
+-- $ and numbers that are not negative
+pub sub_form : (k out : ℤ) → PrintableNumber k → PrintableNumber out → Form free anything (sub_spelling k out) (sub_piece k out ∷ [])
+sub_form (pos n) (pos m) h i = dollar_form n m h i
+sub_form (pos n) (negsuc m) h i = absurd i
+sub_form (negsuc n) out h i = absurd h
 
 -- ---- marks
 

@@ -68,9 +68,9 @@ kind_readable (component n binds) =
 -- a part
 part_readable : (p : WrittenPart) → GoodGives (spell_part p) (PrintablePart (see_part p))
 part_readable (input p) = form (λ h. h) (path_readable p)
-part_readable (subtask inputs output) =
+part_readable (subtask inputs outputs) =
     form (λ p. (p.0, p.1.0))
-    (fixed_then (kinds.Mark marks.OpenSquare) (both (paths_readable inputs) (fixed_then (kinds.Mark marks.Arrow) (both (path_readable output) (fixed_then (kinds.Mark marks.CloseSquare) nothing)))))
+    (fixed_then (kinds.Mark marks.OpenSquare) (both (paths_readable inputs) (fixed_then (kinds.Mark marks.Arrow) (both (paths_readable outputs) (fixed_then (kinds.Mark marks.CloseSquare) nothing)))))
 
 -- parts joined by commas
 parts_readable : (ps : written.OneOrMore WrittenPart) → GoodGives (spell_parts ps) (SomeAndAll (λ p. PrintablePart (see_part p)) (all_of ps))

@@ -42,8 +42,8 @@ pub number_then : {ys : List Symbol} {Q : Type 0} (i : ℤ) → GoodGives ys Q �
 number_then i s = record { shows = λ g. (g.0, s.shows g.1) }
 
 -- the number of a subtask before a form
-sub_then : {ys : List Symbol} {Q : Type 0} (i : ℤ) (p : Place) → GoodGives ys Q → GoodGives (sub i p ∷ ys) (PrintableNumber i × Q)
-sub_then i p s = record { shows = λ g. (g.0, s.shows g.1) }
+sub_then : {ys : List Symbol} {Q : Type 0} (i j : ℤ) (p : Place) → GoodGives ys Q → GoodGives (sub i j p ∷ ys) ((PrintableNumber i × PrintableNumber j) × Q)
+sub_then i j p s = record { shows = λ g. (g.0, s.shows g.1) }
 
 -- what follows from it
 pub form : {xs : List Symbol} {P Q : Type 0} → (P → Q) → GoodGives xs P → GoodGives xs Q
@@ -101,8 +101,8 @@ mutual
   factor_readable (variable p) = form (λ p. p) (path_readable p)
   factor_readable (round e) = form (λ p. p.0) (fixed_then (kinds.Mark marks.OpenRound) (both (expr_readable e) (fixed_then (kinds.Mark marks.CloseRound) nothing)))
   factor_readable (call k place first more) =
-      form (λ p. (p.0, (p.1.0, p.1.1.0)))
-      (sub_then (pos k) place (fixed_then (kinds.Mark marks.OpenRound) (both (expr_readable first) (both (exprs_readable more) (fixed_then (kinds.Mark marks.CloseRound) nothing)))))
+      form (λ p. (p.0.0, p.0.1, (p.1.0, p.1.1.0)))
+      (sub_then (pos k.0) (pos k.1) place (fixed_then (kinds.Mark marks.OpenRound) (both (expr_readable first) (both (exprs_readable more) (fixed_then (kinds.Mark marks.CloseRound) nothing)))))
   factor_readable (loop kind n first second each) =
       form (λ p. (p.0, p.1.0, p.1.1.0, p.1.1.1.0))
       (fixed_then (kinds.Word (loop_word kind)) (fixed_then (kinds.Mark marks.OpenRound) (name_then n (fixed_then (kinds.Mark marks.Comma) (both (expr_readable first) (fixed_then (kinds.Mark marks.Comma) (both (expr_readable second) (fixed_then (kinds.Mark marks.Comma) (both (expr_readable each) (fixed_then (kinds.Mark marks.CloseRound) nothing))))))))))

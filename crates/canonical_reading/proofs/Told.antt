@@ -74,8 +74,8 @@ kind_told (component n binds) h a = a_name n h (if_any_seen spell_binds see_bind
 -- a part
 part_told : (p : WrittenPart) → PrintablePart (see_part p) → Told (spell_part p)
 part_told (input p) h = path_told p h
-part_told (subtask inputs output) h =
-    a_mark marks.OpenSquare (before (paths_told inputs h.0) (a_mark marks.Arrow (before (path_told output h.1) (a_mark marks.CloseSquare nothing))))
+part_told (subtask inputs outputs) h =
+    a_mark marks.OpenSquare (before (paths_told inputs h.0) (a_mark marks.Arrow (before (paths_told outputs h.1) (a_mark marks.CloseSquare nothing))))
 
 -- parts joined by commas
 parts_told : (ps : written.OneOrMore WrittenPart) → SomeAndAll (λ p. PrintablePart (see_part p)) (all_of ps) → Told (spell_parts ps)

@@ -80,8 +80,8 @@ pub a_number : {cs : List Symbol} (i : ℤ) → Told cs → Told (number i ∷ c
 a_number i m = record { each = (told_by_kind (number i) (λ n. refl), m.each) }
 
 -- the number of a subtask before others
-a_sub : {cs : List Symbol} (i : ℤ) (p : Place) → Told cs → Told (sub i p ∷ cs)
-a_sub i p m = record { each = (told_by_kind (sub i p) (λ n. refl), m.each) }
+a_sub : {cs : List Symbol} (i j : ℤ) (p : Place) → Told cs → Told (sub i j p ∷ cs)
+a_sub i j p m = record { each = (told_by_kind (sub i j p) (λ n. (refl, refl)), m.each) }
 
 -- a name before others
 pub a_name : {cs : List Symbol} (n : Named) → PrintableName n → Told cs → Told (name n ∷ cs)
@@ -148,7 +148,7 @@ mutual
   factor_told (variable p) h = path_told p h
   factor_told (round e) h = a_mark marks.OpenRound (before (expr_told e h) (a_mark marks.CloseRound nothing))
   factor_told (call k place first more) h =
-      a_sub (pos k) place (a_mark marks.OpenRound (before (expr_told first h.1.0) (before (exprs_told more h.1.1) (a_mark marks.CloseRound nothing))))
+      a_sub (pos k.0) (pos k.1) place (a_mark marks.OpenRound (before (expr_told first h.2.0) (before (exprs_told more h.2.1) (a_mark marks.CloseRound nothing))))
   factor_told (loop kind n first second each) h =
       a_word (loop_word kind) (a_mark marks.OpenRound (a_name n h.0 (a_mark marks.Comma (before (expr_told first h.1) (a_mark marks.Comma (before (expr_told second h.2) (a_mark marks.Comma (before (expr_told each h.3) (a_mark marks.CloseRound nothing)))))))))
 

@@ -24,9 +24,9 @@ op_mark Div = marks.Slash
 abbrev pub round_pieces : Bool → List Piece → List Piece
 round_pieces needed ps = if_needed_pieces needed (mark_piece marks.OpenRound ∷ []) ++ (ps ++ if_needed_pieces needed (mark_piece marks.CloseRound ∷ []))
 
--- a call of the k-th subtask, with the pieces of its arguments
-abbrev pub called_pieces : ℤ → List Piece → List Piece
-called_pieces k args = sub_piece k ∷ mark_piece marks.OpenRound ∷ (args ++ (mark_piece marks.CloseRound ∷ []))
+-- a call for an output of the k-th subtask, with the pieces of its arguments
+abbrev pub called_pieces : ℤ → ℤ → List Piece → List Piece
+called_pieces k out args = sub_piece k out ∷ mark_piece marks.OpenRound ∷ (args ++ (mark_piece marks.CloseRound ∷ []))
 
 abbrev mutual
   -- an expression at its position
@@ -42,7 +42,7 @@ abbrev mutual
   pieces_at p (loop kind n a b e) =
       (word_piece (loop_word kind) ∷ mark_piece marks.OpenRound ∷ name_piece n ∷ []) ++ ((mark_piece marks.Comma ∷ pieces_at Alone a)
       ++ ((mark_piece marks.Comma ∷ pieces_at Alone b) ++ ((mark_piece marks.Comma ∷ pieces_at Alone e) ++ (mark_piece marks.CloseRound ∷ []))))
-  pieces_at p (call k place args) = called_pieces k (args_pieces args)
+  pieces_at p (call k out place args) = called_pieces k out (args_pieces args)
 
   -- arguments joined by commas
   pub args_pieces : ExprTrees → List Piece

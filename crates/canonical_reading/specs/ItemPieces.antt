@@ -30,15 +30,15 @@ abbrev pub binds_pieces : List Bind → List Piece
 binds_pieces [] = []
 binds_pieces (b ∷ more) = mark_piece marks.OpenRound ∷ (join_by bind_pieces comma (b ∷ more) ++ (mark_piece marks.CloseRound ∷ []))
 
--- "->" path, with the paths before it if there are any
-abbrev pub task_pieces : List Path → Path → List Piece
-task_pieces [] output = mark_piece marks.Arrow ∷ path_pieces output
-task_pieces (p ∷ more) output = paths_pieces (p ∷ more) ++ (mark_piece marks.Arrow ∷ path_pieces output)
+-- "->" and paths, with the paths before them if there are any
+abbrev pub task_pieces : List Path → List Path → List Piece
+task_pieces [] outputs = mark_piece marks.Arrow ∷ paths_pieces outputs
+task_pieces (p ∷ more) outputs = paths_pieces (p ∷ more) ++ (mark_piece marks.Arrow ∷ paths_pieces outputs)
 
 -- a path, or a subtask in brackets
 abbrev pub part_pieces : Part → List Piece
 part_pieces (Input p) = path_pieces p
-part_pieces (Subtask inputs output) = mark_piece marks.OpenSquare ∷ (task_pieces inputs output ++ (mark_piece marks.CloseSquare ∷ []))
+part_pieces (Subtask inputs outputs) = mark_piece marks.OpenSquare ∷ (task_pieces inputs outputs ++ (mark_piece marks.CloseSquare ∷ []))
 
 -- the parts joined by commas
 abbrev pub parts_pieces : List Part → List Piece

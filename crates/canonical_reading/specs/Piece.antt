@@ -11,6 +11,7 @@ use Rattle.utopist_lexer.specs.Spelling.{word_text, mark_text}
 use Rattle.utopist_lexer.specs.Lexical.{Tok}
 use Rattle.utopist_lexer.specs.Tokens.{Reads}
 use Rattle.utopist_syntax.specs.Named.{Named}
+use Rattle.utopist_syntax.specs.ExprText.{sub_spelling}
 
 -- what a token is, and its characters
 pub record Piece : Type 0 where
@@ -41,9 +42,9 @@ name_piece n = record { kind = kinds.Name; text = chars n.text }
 abbrev pub number_piece : ℤ → Piece
 number_piece z = record { kind = kinds.Number z; text = signed_decimal z }
 
--- $ and a number
-abbrev pub sub_piece : ℤ → Piece
-sub_piece z = record { kind = kinds.Sub z; text = 36 ∷ signed_decimal z }
+-- $ and the number of a subtask, with the number of an output behind a dot where it isn't 1
+abbrev pub sub_piece : ℤ → ℤ → Piece
+sub_piece k out = record { kind = kinds.Sub k out; text = sub_spelling k out }
 
 -- a comma between two of a list
 abbrev pub comma : List Piece

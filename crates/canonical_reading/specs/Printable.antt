@@ -50,7 +50,7 @@ abbrev mutual
   PrintableTree (op o a b) = PrintableTree a × PrintableTree b
   PrintableTree (choice c a b t e) = PrintableTree a × PrintableTree b × PrintableTree t × PrintableTree e
   PrintableTree (loop kind n a b e) = PrintableName n × PrintableTree a × PrintableTree b × PrintableTree e
-  PrintableTree (call k place args) = PrintableNumber k × PrintableTrees args
+  PrintableTree (call k out place args) = PrintableNumber k × PrintableNumber out × PrintableTrees args
 
   -- those of arguments, if there are any
   pub PrintableTrees : ExprTrees → Type 0
@@ -66,10 +66,10 @@ PrintableKind (Of n) = PrintableName n
 abbrev pub PrintableBind : Bind → Type 0
 PrintableBind b = PrintablePath b.left × PrintablePath b.right
 
--- each path; a subtask may have no inputs
+-- each path; a subtask may have no inputs, and has one or more outputs
 abbrev pub PrintablePart : Part → Type 0
 PrintablePart (Input p) = PrintablePath p
-PrintablePart (Subtask inputs output) = AllByRecursion PrintablePath inputs × PrintablePath output
+PrintablePart (Subtask inputs outputs) = AllByRecursion PrintablePath inputs × SomeAndAll PrintablePath outputs
 
 -- the expression, if there is one
 abbrev pub PrintableBody : Option ExprTree → Type 0

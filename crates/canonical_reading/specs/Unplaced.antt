@@ -27,7 +27,7 @@ abbrev mutual
   unplaced_tree (op o a b) = op o (unplaced_tree a) (unplaced_tree b)
   unplaced_tree (choice c a b t e) = choice c (unplaced_tree a) (unplaced_tree b) (unplaced_tree t) (unplaced_tree e)
   unplaced_tree (loop kind n a b e) = loop kind (unplaced_name n) (unplaced_tree a) (unplaced_tree b) (unplaced_tree e)
-  unplaced_tree (call k place args) = call k first_place (unplaced_trees args)
+  unplaced_tree (call k out place args) = call k out first_place (unplaced_trees args)
 
   -- the arguments of a call
   pub unplaced_trees : ExprTrees → ExprTrees
@@ -50,7 +50,7 @@ unplaced_bind b = record { left = unplaced_path b.left; right = unplaced_path b.
 -- a part of a relation
 abbrev pub unplaced_part : Part → Part
 unplaced_part (Input p) = Input (unplaced_path p)
-unplaced_part (Subtask inputs output) = Subtask (map unplaced_path inputs) (unplaced_path output)
+unplaced_part (Subtask inputs outputs) = Subtask (map unplaced_path inputs) (map unplaced_path outputs)
 
 -- a body, where there is one
 abbrev pub unplaced_body : Option ExprTree → Option ExprTree

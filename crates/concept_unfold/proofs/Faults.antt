@@ -85,7 +85,7 @@ expr_behind_fewer inputs rounds taken fewer (loop kind n a b e) sub h =
     (both_pass _ _ (expr_behind_fewer inputs rounds (n.text ∷ taken) (n.text ∷ fewer) a more (first_passes _ _ parts))
     (both_pass _ _ (expr_behind_fewer inputs rounds (n.text ∷ taken) (n.text ∷ fewer) b more (first_passes _ _ after))
     (expr_behind_fewer inputs (n.text ∷ rounds) (n.text ∷ taken) (n.text ∷ fewer) e more (second_passes _ _ after))))
-expr_behind_fewer inputs rounds taken fewer (call k place args) sub h = refl
+expr_behind_fewer inputs rounds taken fewer (call k out place args) sub h = refl
 
 -- a body follows the rules behind fewer names too
 pub body_behind_fewer : (names fewer inputs : List (List ℕ)) (body : Option ExprTree) → All (Contains names) fewer → AllHold (body_rows names inputs body) → AllHold (body_rows fewer inputs body)

@@ -70,7 +70,7 @@ places_added p names name a new = record {
 
 few_in : (p : Part) → length (input_in p) ≤ 1
 few_in (Input p) = omega arith
-few_in (Subtask inputs output) = omega arith
+few_in (Subtask inputs outputs) = omega arith
 
 few_of : (parts : List Part) → length (inputs_of parts) ≤ length parts
 few_of [] = omega arith

@@ -9,7 +9,7 @@ use Rattle.statement_set.proofs.Lists.{all_left, all_right, contains_at}
 use Rattle.statement_set.specs.Problem.{Task, empty_task}
 use Rattle.utopist_syntax.specs.declared.compute.Compute.{Compute}
 use Rattle.utopist_syntax.specs.FileTree.{ItemTree, ConceptTree, FileTree}
-use Rattle.utopist_syntax.specs.Asks.{AllAsk}
+use Rattle.utopist_syntax.specs.Shape.{HasComputeShape, HasShape}
 use Rattle.concept_unfold.specs.Limits.{max_variables, max_size, max_statements}
 use Rattle.concept_unfold.specs.Built.{IsBuiltItem, IsBuiltConcept}
 use Rattle.concept_unfold.specs.Paths.{given_paths}
@@ -78,8 +78,8 @@ module _ (f : FileTree) (k : ℕ) (w : Compute) (there : slice_get f.computes k 
   wants_known = known_from_rows (all_variables (items_of f.concepts w.name.text)) w.wants (right_hold (given_rows f.concepts 0 w) (want_rows f.concepts 0 w) its_names)
 
 -- each of them asks for something
-pub it_asks : (f : FileTree) (k : ℕ) (w : Compute) → slice_get f.computes k ≡ Some w → AllAsk f → w.wants ≡ [] → ⊥
-it_asks f k w there h = All-contains (λ (c : Compute). c.wants ≡ [] → ⊥) f.computes w h (contains_at f.computes k w there)
+pub it_asks : (f : FileTree) (k : ℕ) (w : Compute) → slice_get f.computes k ≡ Some w → HasShape f → w.wants ≡ [] → ⊥
+it_asks f k w there h = (All-contains HasComputeShape f.computes w h.computes (contains_at f.computes k w there)).wants.0
 
 -- the compute statement that was read stands in the file
 pub stands : (read all : List Compute) (i : ℕ) (w : Compute) → read ≡ all → i < length all → w ≡ get_or read i w → slice_get all i ≡ Some w

@@ -97,7 +97,7 @@ expr_passes inputs rounds taken (loop kind n a b e) built h =
     loop_passes (length inputs) (length rounds) kind (expr_body inputs rounds a) (expr_body inputs rounds b) (expr_body inputs (n.text ∷ rounds) e)
     (expr_passes inputs rounds (n.text ∷ taken) a built.0 (first_passes _ _ parts)) (expr_passes inputs rounds (n.text ∷ taken) b built.1.0 (first_passes _ _ after))
     (expr_passes inputs (n.text ∷ rounds) (n.text ∷ taken) e built.1.1 (second_passes _ _ after))
-expr_passes inputs rounds taken (call k place args) built h = absurd built
+expr_passes inputs rounds taken (call k out place args) built h = absurd built
 
 abbrev arity_of : Subtask → Arity
 arity_of u = record { inputs = length u.inputs; outputs = length u.outputs }

@@ -40,7 +40,7 @@ expr_body inputs rounds (choice c a b t e) =
     body.choice c (expr_body inputs rounds a) (expr_body inputs rounds b) (expr_body inputs rounds t) (expr_body inputs rounds e)
 expr_body inputs rounds (loop kind n a b e) =
     loop_body kind (expr_body inputs rounds a) (expr_body inputs rounds b) (expr_body inputs (n.text ∷ rounds) e)
-expr_body inputs rounds (call k place args) = body.call 0 0 body.none
+expr_body inputs rounds (call k out place args) = body.call 0 0 body.none
 
 -- the body over these inputs, if there is one
 abbrev pub body_over : List (List ℕ) → Option ExprTree → Option BodyTree

@@ -49,7 +49,7 @@ expr_fault pt (choice c a b t e) =
 expr_fault pt (loop kind n a b e) =
     and_then (fault_unless (not (is_among n.text pt.taken)) (broken_at n rule.ShadowedName))
     (and_then (expr_fault (in_bounds n pt) a) (and_then (expr_fault (in_bounds n pt) b) (expr_fault (in_round n pt) e)))
-expr_fault pt (call k place args) = Ok tt
+expr_fault pt (call k out place args) = Ok tt
 
 -- a body over these inputs that has no fault behind some names, or none
 abbrev pub IsFaultless : List (List ℕ) → Option ExprTree → Type 0

@@ -9,7 +9,7 @@ use Rattle.utopist_syntax.specs.FileTree.{ItemTree, var, eq, rel, ConceptTree, F
 -- a plain input
 abbrev pub IsInput : Part → Type 0
 IsInput (Input p) = Unit {0}
-IsInput (Subtask inputs output) = ⊥
+IsInput (Subtask inputs outputs) = ⊥
 
 -- an expression without a call, whose numbers are not negative
 abbrev pub IsBuiltExpr : ExprTree → Type 0
@@ -19,7 +19,7 @@ IsBuiltExpr (neg a) = IsBuiltExpr a
 IsBuiltExpr (op o a b) = IsBuiltExpr a × IsBuiltExpr b
 IsBuiltExpr (choice c a b t e) = IsBuiltExpr a × (IsBuiltExpr b × (IsBuiltExpr t × IsBuiltExpr e))
 IsBuiltExpr (loop kind n a b e) = IsBuiltExpr a × (IsBuiltExpr b × IsBuiltExpr e)
-IsBuiltExpr (call k place args) = ⊥
+IsBuiltExpr (call k out place args) = ⊥
 
 -- a body of such an expression, or none
 abbrev pub IsBuiltBody : Option ExprTree → Type 0

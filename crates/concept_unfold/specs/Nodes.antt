@@ -10,7 +10,7 @@ nodes (neg a) = suc (nodes a)
 nodes (op o a b) = suc (nodes a + nodes b)
 nodes (choice c a b t e) = suc (nodes a + nodes b + nodes t + nodes e)
 nodes (loop kind n a b e) = suc (nodes a + nodes b + nodes e)
-nodes (call k place args) = 1
+nodes (call k out place args) = 1
 
 -- how many nodes a body has, if there is one
 abbrev pub body_nodes : Option ExprTree → ℕ

@@ -94,7 +94,7 @@ impl Inputs {
 }
 
 /// The first name of a path.
-pub(crate) fn first_text(path: &Path) -> &str
+pub(crate) fn first_text<'a>(path: &Path<'a>) -> &'a str
     ensures { result.now ≡ (first_name path.now).text }
 {
     match path.parts.as_slice() {

@@ -1,6 +1,6 @@
 // Files whose rules hold, and texts that break each rule that can fail.
 ghost use Rattle.std.specs.Prelude.{IfOk};
-ghost use Rattle.utopist_syntax.specs.Asks.{AllAsk};
+ghost use Rattle.utopist_syntax.specs.Shape.{HasShape};
 ghost use Rattle.utopist_syntax.specs.FileTree.{file_tree};
 
 use crate::{Limit, ModelFault, Rule, UnfoldFault, check_concepts, is_built, unfold};
@@ -11,8 +11,8 @@ use std::test::Fail;
 use utopist_parser::{ParseFault, parse};
 use utopist_syntax::File;
 
-pub(crate) fn read(alloc: Global, text: &str) -> Result<File, ParseFault>
-    ensures { IfOk result (λ f. AllAsk (file_tree f)) }
+pub(crate) fn read<'a>(alloc: Global, text: &'a str) -> Result<File<'a>, ParseFault>
+    ensures { IfOk result (λ f. HasShape (file_tree f)) }
 {
     if text.len() > MAX_INPUT {
         return Err(ParseFault::NoMem);

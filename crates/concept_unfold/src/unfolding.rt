@@ -2,7 +2,7 @@ ghost use Rattle.std.specs.Prelude.{◌≡◌, ◌≢◌, ◌<◌, [], length, m
 ghost use Rattle.statement_set.specs.Problem.{IsPlain, IsWhole};
 ghost use Rattle.utopist_syntax.specs.declared.compute.Compute.{Compute};
 ghost use Rattle.utopist_syntax.specs.FileTree.{item_tree, concept_tree, file_tree};
-ghost use Rattle.utopist_syntax.specs.Asks.{AllAsk};
+ghost use Rattle.utopist_syntax.specs.Shape.{HasShape};
 ghost use Rattle.concept_unfold.specs.Built.{IsBuilt};
 ghost use Rattle.concept_unfold.specs.Rows.{AllHold};
 ghost use Rattle.concept_unfold.specs.ConceptRules.{concept_rules};
@@ -22,7 +22,7 @@ pub fn unfold(alloc: Global, file: &File, which: u32) -> Result<Problem, UnfoldF
     requires which { which < length file.now.computes }
     requires built { IsBuilt (file_tree file.now) }
     requires rules { AllHold (concept_rules (file_tree file.now)) }
-    requires wants { AllAsk (file_tree file.now) }
+    requires shape { HasShape (file_tree file.now) }
     ensures problem { (c : Compute) → slice_get file.now.computes which ≡ Some c → UnfoldOf (file_tree file.now) c result }
     ensures whole { IfOk result IsWhole }
     ensures plain { IfOk result IsPlain }
@@ -37,7 +37,7 @@ pub fn unfold(alloc: Global, file: &File, which: u32) -> Result<Problem, UnfoldF
 }
 
 /// The items of the concept of that name.
-fn items_of<'a>(concepts: &'a [Concept], name: &str) -> &'a [Item]
+fn items_of<'t, 'a>(concepts: &'t [Concept<'a>], name: &str) -> &'t [Item<'a>]
     ensures { map item_tree result.now ≡ items_of (map concept_tree concepts.now) name.now }
 {
     for concept in concepts {

@@ -69,7 +69,7 @@ mutual
   factor_watched (literal n) = recast {A = Unit {0}} (λ u. omega (arith, ints)) (λ h. tt) (a_number (pos n) nothing)
   factor_watched (variable p) = path_watched p
   factor_watched (round e) = a_mark marks.OpenRound refl (before (expr_watched e) (a_mark marks.CloseRound refl nothing))
-  factor_watched (call k place first more) = an_opener (sub (pos k) place) (λ c. refl) (λ b. b)
+  factor_watched (call k place first more) = an_opener (sub (pos k.0) (pos k.1) place) (λ c. refl) (λ b. b)
   factor_watched (loop kind n first second each) =
       a_word (loop_word kind) (loop_closed kind) (loop_no_var kind)
       (a_mark marks.OpenRound refl

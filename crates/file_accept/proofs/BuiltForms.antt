@@ -46,7 +46,7 @@ of_numeric n e = cc
 
 part_watched : (p : WrittenPart) → Watched (IsInput (see_part p)) (spell_part p)
 part_watched (input p) = path_watched p
-part_watched (subtask inputs output) = an_opener (mark marks.OpenSquare) (λ c. refl) (λ b. b)
+part_watched (subtask inputs outputs) = an_opener (mark marks.OpenSquare) (λ c. refl) (λ b. b)
 
 parts_watched : (o : Option (OneOrMore WrittenPart)) → Watched (All IsInput (map see_part (all_if_any o))) (spell_option spell_parts o)
 parts_watched None = recast {A = Unit {0}} (λ u. All-nil IsInput) (λ a. tt) nothing

@@ -10,7 +10,7 @@ use Rattle.utopist_lexer.specs.Lexical.{Tok}
 use Rattle.utopist_syntax.specs.declared.file.File.{File}
 use Rattle.utopist_syntax.specs.FileTree.{FileTree, file_tree}
 use Rattle.utopist_parser.specs.Symbols.{symbol_of, symbol_at, end}
-use Rattle.utopist_parser.specs.Single.{kind_of}
+use Rattle.utopist_parser.specs.steps.Single.{kind_of}
 use Rattle.utopist_parser.specs.declared.parser.ParseFault.{ParseFault}
 use Rattle.utopist_parser.specs.declared.parser.ParseFault.TheVariants as parsing
 use Rattle.utopist_parser.specs.Forms.{ReadsAs, ParseOf}
@@ -45,7 +45,7 @@ kind_at t = at t.kind where
   at kinds.Name = refl
   at (kinds.Word w) = refl
   at (kinds.Number i) = refl
-  at (kinds.Sub i) = refl
+  at (kinds.Sub i j) = refl
   at (kinds.Mark m) = refl
   at kinds.End = refl
 

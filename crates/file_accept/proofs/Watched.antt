@@ -11,7 +11,7 @@ use Rattle.utopist_lexer.specs.declared.token.Kind.{Kind}
 use Rattle.utopist_lexer.specs.declared.token.Kind.TheVariants as kinds
 use Rattle.utopist_syntax.specs.Named.{Named}
 use Rattle.utopist_parser.specs.Symbols.{Symbol, name, number, word, mark}
-use Rattle.utopist_parser.specs.Single.{kind_of}
+use Rattle.utopist_parser.specs.steps.Single.{kind_of}
 use Rattle.utopist_parser.specs.Written.{OneOrMore, WrittenPath}
 use Rattle.utopist_parser.specs.ExprSymbols.{behind as next_of, separated, spell_name, spell_path}
 use Rattle.utopist_parser.specs.ExprTree.{all_of}

@@ -27,7 +27,7 @@ abbrev pub opens : Context → Kind → Bool
 opens c kinds.Name = c.in_var && c.behind_colon
 opens c (kinds.Word w) = word_opens w
 opens c (kinds.Number i) = false
-opens c (kinds.Sub i) = true
+opens c (kinds.Sub i j) = true
 opens c (kinds.Mark m) = mark_opens m
 opens c kinds.End = false
 
@@ -46,7 +46,7 @@ abbrev pub context_behind : Context → Kind → Context
 context_behind c kinds.Name = record { in_var = c.in_var; behind_colon = false }
 context_behind c (kinds.Word w) = record { in_var = is_var w; behind_colon = false }
 context_behind c (kinds.Number i) = record { in_var = c.in_var; behind_colon = false }
-context_behind c (kinds.Sub i) = record { in_var = c.in_var; behind_colon = false }
+context_behind c (kinds.Sub i j) = record { in_var = c.in_var; behind_colon = false }
 context_behind c (kinds.Mark m) = record { in_var = c.in_var; behind_colon = is_colon m }
 context_behind c kinds.End = record { in_var = c.in_var; behind_colon = false }
 

@@ -2,7 +2,7 @@ ghost use Rattle.std.specs.Prelude.{◌≡◌, ◌≤◌, length, All, IfOk, OnO
 ghost use Rattle.std.specs.List.{flat_map};
 ghost use Rattle.priz_base.specs.Reading.{max_input};
 ghost use Rattle.statement_set.specs.Problem.{IsPlain};
-ghost use Rattle.utopist_syntax.specs.Asks.{AllAsk};
+ghost use Rattle.utopist_syntax.specs.Shape.{HasShape};
 ghost use Rattle.utopist_syntax.specs.FileTree.{file_tree};
 ghost use Rattle.concept_unfold.specs.Built.{IsBuilt};
 ghost use Rattle.concept_unfold.specs.Rows.{AllHold, Checks};
@@ -32,7 +32,7 @@ pub fn problems_of(alloc: Global, text: &str) -> Result<Items<Problem>, FileFaul
 
 fn unfold_file(alloc: Global, file: &File) -> Result<Items<Problem>, UnfoldFault>
     requires built { IsBuilt (file_tree file.now) }
-    requires wants { AllAsk (file_tree file.now) }
+    requires shape { HasShape (file_tree file.now) }
     ensures rules { Checks (rules_of (file_tree file.now)) result }
     ensures problems { IfOk result (λ ps. ps ≡ problems_of (file_tree file.now)) }
     ensures plain { IfOk result (All IsPlain) }
@@ -44,7 +44,7 @@ fn unfold_file(alloc: Global, file: &File) -> Result<Items<Problem>, UnfoldFault
 fn unfold_all(alloc: Global, file: &File) -> Result<Items<Problem>, UnfoldFault>
     requires rules { AllHold (concept_rules (file_tree file.now)) }
     requires built { IsBuilt (file_tree file.now) }
-    requires wants { AllAsk (file_tree file.now) }
+    requires shape { HasShape (file_tree file.now) }
     ensures rules { Checks (flat_map (unfolding_rules (file_tree file.now)) file.now.computes) result }
     ensures problems { IfOk result (λ ps. ps ≡ problems_of (file_tree file.now)) }
     ensures plain { IfOk result (All IsPlain) }

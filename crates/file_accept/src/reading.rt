@@ -1,6 +1,6 @@
 ghost use Rattle.std.specs.Prelude.{◌≤◌, length, IfOk};
 ghost use Rattle.priz_base.specs.Reading.{max_input};
-ghost use Rattle.utopist_syntax.specs.Asks.{AllAsk};
+ghost use Rattle.utopist_syntax.specs.Shape.{HasShape};
 ghost use Rattle.utopist_syntax.specs.FileTree.{file_tree};
 ghost use Rattle.file_accept.specs.steps.FormOf.{FormOf};
 
@@ -11,10 +11,10 @@ use utopist_parser::parse;
 use utopist_syntax::File;
 
 /// The file that the text reads as, if its forms are built.
-pub(crate) fn file_of(alloc: Global, text: &str) -> Result<File, FileFault>
+pub(crate) fn file_of<'a>(alloc: Global, text: &'a str) -> Result<File<'a>, FileFault>
     requires few { length text.now ≤ max_input }
     ensures form { FormOf text.entry.now result }
-    ensures wants { IfOk result (λ f. AllAsk (file_tree f)) }
+    ensures shape { IfOk result (λ f. HasShape (file_tree f)) }
 {
     let file = parse(alloc, text)?;
     match first_unbuilt(text) {

@@ -26,7 +26,7 @@ impl Context {
             Kind::Word(word) => matches!(word, Word::Is | Word::Eq),
             Kind::Mark(mark) => matches!(mark, Mark::OpenSquare),
             // A call of a subtask.
-            Kind::Sub(_) => true,
+            Kind::Sub { .. } => true,
             Kind::Number(_) | Kind::End => false,
         }
     }
@@ -44,7 +44,7 @@ impl Context {
                 in_var: self.in_var,
                 behind_colon: matches!(mark, Mark::Colon),
             },
-            Kind::Name | Kind::Number(_) | Kind::Sub(_) | Kind::End => Context {
+            Kind::Name | Kind::Number(_) | Kind::Sub { .. } | Kind::End => Context {
                 in_var: self.in_var,
                 behind_colon: false,
             },

@@ -1,10 +1,11 @@
 -- The longest token at the front of some characters.
-use Rattle.std.proofs.Common.{◌≡◌, ℕ, ◌<◌, Bool, true, false, List, [], ◌∷◌, ◌++◌, length, Some, None, refl, sym, ap, subst, ◌∙◌, arith, append_assoc, length-append}
+use Rattle.std.proofs.Common.{◌≡◌, ℕ, ◌<◌, Bool, true, false, List, [], ◌∷◌, ◌++◌, length, Some, None, refl, sym, ap, subst, ◌∙◌, arith, append_assoc, length-append, inl, inr}
+use Rattle.std.specs.Prelude.{ℤ}
 use Rattle.std.specs.Char.{is_ascii_digit}
 use Rattle.std.specs.List.{list_all}
 use Rattle.std.specs.Str.{chars, encode_utf8_all}
 use Rattle.std.proofs.lemmas.Bool.{and_parts, and_from, both_ways}
-use Rattle.std.proofs.lemmas.List.{nil_from_length}
+use Rattle.std.proofs.lemmas.List.{nil_from_length, append-nil}
 use Rattle.std.proofs.lemmas.List.Folds.{list_all-append}
 use Rattle.std.proofs.lemmas.Str.{encodes-append, encodes-IsAscii}
 use Rattle.utopist_lexer.specs.declared.mark.Mark.{Mark}
@@ -12,13 +13,14 @@ use Rattle.utopist_lexer.specs.declared.classes.Class.TheVariants as classes
 use Rattle.utopist_lexer.specs.declared.token.Kind.{Kind}
 use Rattle.utopist_lexer.specs.Characters.{is_start, is_continue, has}
 use Rattle.utopist_lexer.specs.Spelling.{mark_text}
-use Rattle.utopist_lexer.specs.Lexical.{IsIdentifier, AreDigits, Spells}
+use Rattle.utopist_lexer.specs.Lexical.{IsIdentifier, AreDigits, SpellsOutput, Spells}
 use Rattle.utopist_lexer.specs.Faults.{IsLoneDollar}
 use Rattle.utopist_lexer.specs.Tables.{front_mark}
-use Rattle.utopist_lexer.specs.Cutting.{StopsAt, IsRun}
+use Rattle.utopist_lexer.specs.Cutting.{StopsAt, IsRun, IsUndotted}
 use Rattle.utopist_lexer.proofs.CharacterFacts.{start_continues}
 use Rattle.utopist_lexer.proofs.Spellings.{mark_greatest, mark_found}
-use Rattle.utopist_lexer.proofs.Leads.{other, lead, letter_lead, digit_lead, dollar_lead, spells_lead, spells_something, letter_identifier, digit_digits, dollar_digits, other_mark, mark_ascii}
+use Rattle.utopist_lexer.proofs.Leads.{other, lead, letter_lead, digit_lead, dollar_lead, spells_lead, spells_something, letter_identifier, digit_digits, dollar_sub, other_mark, mark_ascii}
+use Rattle.utopist_lexer.proofs.Outputs.{runs_same, output_stops}
 
 -- ---- runs
 
@@ -73,11 +75,41 @@ module _ (c : ℕ) (cs front rest : List ℕ) (starts : is_ascii_digit c ≡ tru
 
 -- ---- $ and a number
 
-pub sub_longest : (digits rest : List ℕ) → IsRun (has classes.Digits) digits rest → (more after : List ℕ) (k : Kind) → rest ≡ more ++ after → Spells k ((36 ∷ digits) ++ more) → more ≡ []
-sub_longest digits rest run more after k e s =
-    let d = dollar_digits k (36 ∷ (digits ++ more)) (sym (spells_lead k 36 (digits ++ more) s) ∙ dollar_lead) s in
-    let same : digits ++ more ≡ d.0 = cc (d.1) in
-    run_done is_ascii_digit digits rest more after run e (subst (λ (l : List ℕ). list_all is_ascii_digit l ≡ true) (sym same) d.2.1)
+-- what goes on behind digits would be digits, or a dot and digits
+undotted_longest : (digits rest : List ℕ) → IsRun (has classes.Digits) digits rest → IsUndotted rest → (more after : List ℕ) → rest ≡ more ++ after → (out : ℤ) (ds behind : List ℕ) → digits ++ more ≡ ds ++ behind → AreDigits ds → SpellsOutput out behind → more ≡ []
+undotted_longest digits rest run bare [] after e out ds behind are some o = refl
+undotted_longest digits rest run bare (m ∷ ms) after e out ds behind are some (inl x) =
+    let all : digits ++ (m ∷ ms) ≡ ds = are ∙ ap (λ (l : List ℕ). ds ++ l) x.0 ∙ append-nil ds in
+    run_done is_ascii_digit digits rest (m ∷ ms) after run e (subst (λ (l : List ℕ). list_all is_ascii_digit l ≡ true) (sym all) some.1)
+undotted_longest digits rest run bare (m ∷ ms) after e out ds behind are some (inr x) =
+    let same = runs_same is_ascii_digit digits ds (m ∷ ms) behind run.passes some.1 (subst (StopsAt is_ascii_digit) e run.stops) (output_stops out behind (inr x)) are in
+    absurd (bare x.0 after (e ∙ ap (λ (l : List ℕ). l ++ after) (same.1 ∙ x.1)) x.2)
+
+-- no longer token stands there where behind the digits no dot with digits stands
+pub sub_longest : (digits rest : List ℕ) → IsRun (has classes.Digits) digits rest → IsUndotted rest → (more after : List ℕ) (k : Kind) → rest ≡ more ++ after → Spells k ((36 ∷ digits) ++ more) → more ≡ []
+sub_longest digits rest run bare more after k e s =
+    let d = dollar_sub k (36 ∷ (digits ++ more)) (sym (spells_lead k 36 (digits ++ more) s) ∙ dollar_lead) s in
+    let whole : 36 ∷ (digits ++ more) ≡ 36 ∷ (d.2.digits ++ d.2.behind) = d.2.are in
+    let are : digits ++ more ≡ d.2.digits ++ d.2.behind = cc in
+    undotted_longest digits rest run bare more after e d.1 d.2.digits d.2.behind are d.2.some d.2.output
+
+-- what goes on behind a dot and digits would be digits
+dotted_done : (digits es rest more after : List ℕ) → list_all is_ascii_digit digits ≡ true → IsRun (has classes.Digits) es rest → rest ≡ more ++ after → (out : ℤ) (ds behind : List ℕ) → digits ++ (46 ∷ (es ++ more)) ≡ ds ++ behind → AreDigits ds → SpellsOutput out behind → more ≡ []
+dotted_done digits es rest more after all run e out ds behind are some o = go o (runs_same is_ascii_digit digits ds (46 ∷ (es ++ more)) behind all some.1 refl (output_stops out behind o) are).1 where
+  go : SpellsOutput out behind → 46 ∷ (es ++ more) ≡ behind → more ≡ []
+  go (inl x) same = let none : 46 ∷ (es ++ more) ≡ [] = same ∙ x.0 in absurd cc
+  go (inr x) same =
+      let both : 46 ∷ (es ++ more) ≡ 46 ∷ x.0 = same ∙ x.1 in
+      let is : es ++ more ≡ x.0 = cc in
+      run_done is_ascii_digit es rest more after run e (subst (λ (l : List ℕ). list_all is_ascii_digit l ≡ true) (sym is) x.2.1)
+
+-- no longer token stands where digits, a dot and the longest digits do
+pub dotted_longest : (digits es rest : List ℕ) → list_all is_ascii_digit digits ≡ true → IsRun (has classes.Digits) es rest → (more after : List ℕ) (k : Kind) → rest ≡ more ++ after → Spells k ((36 ∷ (digits ++ (46 ∷ es))) ++ more) → more ≡ []
+dotted_longest digits es rest all run more after k e s =
+    let d = dollar_sub k (36 ∷ ((digits ++ (46 ∷ es)) ++ more)) (sym (spells_lead k 36 ((digits ++ (46 ∷ es)) ++ more) s) ∙ dollar_lead) s in
+    let whole : 36 ∷ ((digits ++ (46 ∷ es)) ++ more) ≡ 36 ∷ (d.2.digits ++ d.2.behind) = d.2.are in
+    let inside : (digits ++ (46 ∷ es)) ++ more ≡ d.2.digits ++ d.2.behind = cc in
+    dotted_done digits es rest more after all run e d.1 d.2.digits d.2.behind (sym (append_assoc digits (46 ∷ es) more) ∙ inside) d.2.some d.2.output
 
 -- behind $ stands no digit
 pub lone_dollar : (text rest : List ℕ) → text ≡ 36 ∷ rest → StopsAt is_ascii_digit rest → IsLoneDollar text

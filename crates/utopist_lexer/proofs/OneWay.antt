@@ -1,5 +1,5 @@
 -- A text is read in one way.
-use Rattle.std.proofs.Common.{◌≡◌, ℕ, ◌<◌, true, false, List, [], ◌∷◌, ◌++◌, length, Option, Some, refl, sym, ap, subst, ◌∙◌, arith, inl, inr, ⊎_elim}
+use Rattle.std.proofs.Common.{◌≡◌, ℕ, ◌<◌, true, false, List, [], ◌∷◌, ◌++◌, length, Option, Some, refl, sym, ap, subst, ◌∙◌, arith, append_assoc, inl, inr, ⊎_elim}
 use Rattle.std.specs.Prelude.{◌⊎◌, ℤ, pos}
 use Rattle.std.specs.Char.{is_ascii_digit}
 use Rattle.std.specs.Str.{encode_utf8_all}
@@ -22,7 +22,8 @@ use Rattle.utopist_lexer.specs.OneReading.{OneList, OneFault, NotBoth}
 use Rattle.utopist_lexer.specs.Spelling.{word_text, mark_text}
 use Rattle.utopist_lexer.proofs.Splits.{Splits, fronts_split}
 use Rattle.utopist_lexer.proofs.Spellings.{word_of-text, mark_at-text}
-use Rattle.utopist_lexer.proofs.Leads.{lead, lead_of, dollar_lead, spells_lead, spells_something, dollar_digits}
+use Rattle.utopist_lexer.proofs.Leads.{lead, lead_of, dollar_lead, spells_lead, spells_something, dollar_sub}
+use Rattle.utopist_lexer.proofs.Outputs.{subs_same}
 
 -- ---- kinds
 
@@ -41,8 +42,7 @@ kind_at kinds.Name (kinds.Word w) text e s r = absurd (s.1 w r)
 kind_at (kinds.Word v) kinds.Name text e s r = absurd (r.1 v s)
 kind_at (kinds.Word v) (kinds.Word w) text e s r = ap (λ (x : Word). kinds.Word x) (word_same v w (sym s ∙ r))
 kind_at (kinds.Number i) (kinds.Number j) text e s r = ap (λ (x : ℤ). kinds.Number x) (s.1 ∙ sym r.1)
-kind_at (kinds.Sub i) (kinds.Sub j) text e s r =
-    let same : s.0 ≡ r.0 = cc (s.1, r.1) in ap (λ (x : ℤ). kinds.Sub x) (s.3 ∙ ap (λ (d : List ℕ). pos (value_of d)) same ∙ sym r.3)
+kind_at (kinds.Sub i a) (kinds.Sub j b) text e s r = subs_same i j a b text s r
 kind_at (kinds.Mark m) (kinds.Mark n) text e s r = ap (λ (x : Mark). kinds.Mark x) (mark_same m n (sym s ∙ r))
 kind_at kinds.End j text e s r = absurd s
 kind_at k kinds.End text e s r = absurd r
@@ -88,8 +88,8 @@ lone_none : (cs : List ℕ) (k : Kind) (t rest : List ℕ) → IsLoneDollar cs �
 lone_none cs k [] rest l e s = spells_something k s
 lone_none cs k (c ∷ t) rest l e s =
     let first = lone_first cs rest c t l e in
-    let d = dollar_digits k (c ∷ t) (sym (spells_lead k c t s) ∙ ap lead first ∙ dollar_lead) s in
-    lone_digits cs rest d.0 l (e ∙ ap (λ (x : List ℕ). x ++ rest) d.1) d.2
+    let d = (dollar_sub k (c ∷ t) (sym (spells_lead k c t s) ∙ ap lead first ∙ dollar_lead) s).2 in
+    lone_digits cs (d.behind ++ rest) d.digits l (e ∙ ap (λ (x : List ℕ). x ++ rest) d.are ∙ ap (λ (x : List ℕ). 36 ∷ x) (append_assoc d.digits d.behind rest)) d.some
 
 module _ (cs : List ℕ) (x y : Front cs) where
   texts_same : x.text ≡ y.text
@@ -140,7 +140,7 @@ token_numeral : (k : Kind) (t rest : List ℕ) (n : ℕ) → IsNumeral k n → W
 token_numeral kinds.Name t rest n h w = absurd h
 token_numeral (kinds.Word v) t rest n h w = absurd h
 token_numeral (kinds.Number i) t rest n h w = (w.0, λ wide. omega (arith, w.1 n h, wide))
-token_numeral (kinds.Sub i) t rest n h w = (w.0, λ wide. omega (arith, w.1 n h, wide))
+token_numeral (kinds.Sub i j) t rest n h w = (w.0, λ wide. omega (arith, w.1 n h, wide))
 token_numeral (kinds.Mark m) t rest n h w = absurd h
 token_numeral kinds.End t rest n h w = absurd h
 

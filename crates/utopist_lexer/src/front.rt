@@ -3,7 +3,7 @@ ghost use Rattle.std.specs.Prelude.{◌≡◌, ◌↔◌, IsTrue};
 ghost use Rattle.std.specs.Str.{chars};
 ghost use Rattle.utopist_lexer.specs.Characters.{is_start, has, starts_otherwise};
 ghost use Rattle.utopist_lexer.specs.Lexical.{IsFree};
-ghost use Rattle.utopist_lexer.specs.Cutting.{StartsBy, StartsWith, TokenOf, FrontOf};
+ghost use Rattle.utopist_lexer.specs.Cutting.{StartsBy, StartsWith, TokenOf, FrontOf, OutputAt, DigitsIfAny, IsOutput};
 ghost use Rattle.utopist_lexer.specs.Tables.{word_of, front_mark};
 
 use crate::classes::{Class, is_continue, is_start};
@@ -74,21 +74,57 @@ fn number_of(text: &str) -> Result<(Kind, &str, &str), LexKind>
     }
 }
 
-// The digits are what stands behind the $.
+// Behind the $ stand digits, and perhaps a dot and digits.
 fn sub_of<'a>(text: &'a str, behind: &'a str) -> Result<(Kind, &'a str, &'a str), LexKind>
     requires { StartsWith text.now 36 behind.now }
     ensures { TokenOf text.entry.now result }
 {
     let (digits, rest) = cut_run(behind, Class::Digits);
-    if digits.is_empty() || !is_free(rest) {
+    if digits.is_empty() {
+        return Err(LexKind::BadNumber);
+    }
+    let (output, rest) = output_at(rest);
+    if !is_free(rest) {
         return Err(LexKind::BadNumber);
     }
     match value_of(digits) {
-        Some(value) => {
-            let (sub, rest) = cut_before(text, rest);
-            Ok((Kind::Sub(value), sub, rest))
-        }
+        Some(k) => match output_of(output) {
+            Some(out) => {
+                let (sub, rest) = cut_before(text, rest);
+                Ok((Kind::Sub { k, out }, sub, rest))
+            }
+            None => Err(LexKind::NumberTooWide),
+        },
         None => Err(LexKind::NumberTooWide),
+    }
+}
+
+// The digits behind a dot at the front, and what follows them; or none, and the text.
+fn output_at(text: &str) -> (Option<&str>, &str)
+    ensures { OutputAt text.now result.0 result.1.now }
+{
+    let Some((c, behind)) = first_char(text) else {
+        return (None, text);
+    };
+    if c != '.' {
+        return (None, text);
+    }
+    let (output, rest) = cut_run(behind, Class::Digits);
+    if output.is_empty() {
+        (None, text)
+    } else {
+        (Some(output), rest)
+    }
+}
+
+// The value of the digits, or 1 where there are none.
+fn output_of(digits: Option<&str>) -> Option<i64>
+    requires { DigitsIfAny digits }
+    ensures { IsOutput digits.entry result }
+{
+    match digits {
+        Some(digits) => value_of(digits),
+        None => Some(1),
     }
 }
 

@@ -4,13 +4,18 @@ use priz_base::Place;
 use std::alloc::{AllocError, Global};
 use std::test::Fail;
 
-const FAULTS: [(&str, u32, u32, u32, LexKind); 38] = [
+const FAULTS: [(&str, u32, u32, u32, LexKind); 45] = [
     // numbers
     ("$", 0, 1, 1, LexKind::BadNumber),
     ("$x", 0, 1, 1, LexKind::BadNumber),
     ("$ 1", 0, 1, 1, LexKind::BadNumber),
     ("$1x", 0, 1, 1, LexKind::BadNumber),
     ("$1.", 0, 1, 1, LexKind::BadNumber),
+    ("$1.(i)", 0, 1, 1, LexKind::BadNumber),
+    ("$1.x", 0, 1, 1, LexKind::BadNumber),
+    ("$1.2.", 0, 1, 1, LexKind::BadNumber),
+    ("$1.2x", 0, 1, 1, LexKind::BadNumber),
+    ("$1. 2", 0, 1, 1, LexKind::BadNumber),
     ("1.5", 0, 1, 1, LexKind::BadNumber),
     ("2x", 0, 1, 1, LexKind::BadNumber),
     ("1_", 0, 1, 1, LexKind::BadNumber),
@@ -27,6 +32,8 @@ const FAULTS: [(&str, u32, u32, u32, LexKind); 38] = [
         LexKind::NumberTooWide,
     ),
     ("$9223372036854775808", 0, 1, 1, LexKind::NumberTooWide),
+    ("$1.9223372036854775808", 0, 1, 1, LexKind::NumberTooWide),
+    ("$9223372036854775808.2", 0, 1, 1, LexKind::NumberTooWide),
     ("0009223372036854775808", 0, 1, 1, LexKind::NumberTooWide),
     (
         "x=99999999999999999999999999;",
@@ -96,7 +103,7 @@ fn names_each_fault_at_its_place(rt: HostRuntime) {
     }
 }
 
-const TOKENS: [(&str, &[(Kind, u32)]); 5] = [
+const TOKENS: [(&str, &[(Kind, u32)]); 6] = [
     (
         "eq a1=2;",
         &[
@@ -110,15 +117,27 @@ const TOKENS: [(&str, &[(Kind, u32)]); 5] = [
         ],
     ),
     (
-        "isle<=<->-$07# end",
+        "isle<=<->-$07.10# end",
         &[
             (Kind::Name, 0),
             (Kind::Mark(Mark::AtMost), 4),
             (Kind::Mark(Mark::Less), 6),
             (Kind::Mark(Mark::Arrow), 7),
             (Kind::Mark(Mark::Minus), 9),
-            (Kind::Sub(7), 10),
-            (Kind::End, 18),
+            (Kind::Sub { k: 7, out: 10 }, 10),
+            (Kind::End, 21),
+        ],
+    ),
+    (
+        "$1.3(i)$1.0 $1",
+        &[
+            (Kind::Sub { k: 1, out: 3 }, 0),
+            (Kind::Mark(Mark::OpenRound), 4),
+            (Kind::Name, 5),
+            (Kind::Mark(Mark::CloseRound), 6),
+            (Kind::Sub { k: 1, out: 0 }, 7),
+            (Kind::Sub { k: 1, out: 1 }, 12),
+            (Kind::End, 14),
         ],
     ),
     (

@@ -7,11 +7,11 @@ use Rattle.utopist_syntax.specs.View.{tree_of, trees_of}
 use Rattle.utopist_parser.specs.declared.breadth.Breadth.{Breadth}
 use Rattle.utopist_parser.specs.declared.parse_stop.ParseStop.{ParseStop}
 use Rattle.utopist_parser.specs.Symbols.{Symbol}
-use Rattle.utopist_parser.specs.Steps.{Reading, on_ok, next, meets}
-use Rattle.utopist_parser.specs.Single.{is_mark}
-use Rattle.utopist_parser.specs.Lists.{next_at, separated_at}
-use Rattle.utopist_parser.specs.ReadingExpr.{Nested, settled, most, trees_in, expr_at}
-use Rattle.utopist_parser.specs.Answers.{Fails}
+use Rattle.utopist_parser.specs.steps.Steps.{Reading, on_ok, next, meets}
+use Rattle.utopist_parser.specs.steps.Single.{is_mark}
+use Rattle.utopist_parser.specs.steps.Lists.{next_at, separated_at}
+use Rattle.utopist_parser.specs.steps.ReadingExpr.{Nested, settled, most, trees_in, expr_at}
+use Rattle.utopist_parser.specs.steps.Answers.{Fails}
 use Rattle.utopist_parser.proofs.Loops.{fails_on, goes_on, ends, fails}
 use Rattle.utopist_parser.proofs.Starts.{Separated, separated_starts, separated_fails}
 

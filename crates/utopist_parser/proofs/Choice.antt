@@ -2,7 +2,7 @@
 use Rattle.std.proofs.Common.{◌≡◌, ℕ, ◌≤◌, Bool, true, false, cond, List, [], ◌∷◌, ◌++◌, Option, Ok, Err, refl, sym, subst, ◌∙◌, inl, inr}
 use Rattle.std.specs.Prelude.{◌⊎◌}
 use Rattle.utopist_parser.specs.Symbols.{Symbol}
-use Rattle.utopist_parser.specs.Steps.{Why, expected, deep, Miss, StepOf, give, next, meets, choose_at}
+use Rattle.utopist_parser.specs.steps.Steps.{Why, expected, deep, Miss, StepOf, give, next, meets, choose_at}
 use Rattle.utopist_parser.proofs.StepLaws.{AtHead, at_head, Form, Stuck, Further, Took, Blames, AgainAt, Laws, Aspect, again_only, all_laws, Keeps, ok_is, same_next}
 
 module _ {X Y : Type 0} (g : Form X) (d : Form Y) where

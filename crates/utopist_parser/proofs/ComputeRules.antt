@@ -11,14 +11,14 @@ use Rattle.utopist_syntax.specs.Named.{Named}
 use Rattle.utopist_syntax.specs.declared.compute.Compute.{Compute}
 use Rattle.utopist_syntax.specs.declared.compute.GivenPath.{GivenPath}
 use Rattle.utopist_parser.specs.Symbols.{Symbol, number, word, mark}
-use Rattle.utopist_parser.specs.Steps.{next, meets}
-use Rattle.utopist_parser.specs.Single.{is_word, is_mark}
+use Rattle.utopist_parser.specs.steps.Steps.{next, meets}
+use Rattle.utopist_parser.specs.steps.Single.{is_word, is_mark}
 use Rattle.utopist_parser.specs.Written.{OneOrMore, WrittenPath}
 use Rattle.utopist_parser.specs.WrittenFile.{WrittenNumber, WrittenGiven, WrittenCompute}
 use Rattle.utopist_parser.specs.ExprTree.{all_of}
 use Rattle.utopist_parser.specs.FileSymbols.{spell_option, spell_minus, spell_below, spell_value, spell_given, spell_givens, spell_compute}
 use Rattle.utopist_parser.specs.FileSeen.{see_option, see_path, denominator, see_value, see_given, see_compute}
-use Rattle.utopist_parser.specs.ReadingFile.{minus_at, negative_at, some_below_at, below_at, some_value_at, given_value_at, given_at, some_givens_at, givens_at, compute_at}
+use Rattle.utopist_parser.specs.steps.ReadingFile.{minus_at, negative_at, some_below_at, below_at, some_value_at, given_value_at, given_at, some_givens_at, givens_at, compute_at}
 use Rattle.utopist_parser.proofs.StepLaws.{Form, Aspect}
 use Rattle.utopist_parser.proofs.Sequence.{both}
 use Rattle.utopist_parser.proofs.Recast.{recast}

@@ -8,15 +8,15 @@ use Rattle.utopist_lexer.specs.declared.token.Kind.TheVariants as kinds
 use Rattle.utopist_syntax.specs.Named.{Named}
 use Rattle.utopist_syntax.specs.FileTree.{ItemTree, ConceptTree}
 use Rattle.utopist_parser.specs.Symbols.{Symbol, mark}
-use Rattle.utopist_parser.specs.Steps.{next}
-use Rattle.utopist_parser.specs.Single.{is_word}
+use Rattle.utopist_parser.specs.steps.Steps.{next}
+use Rattle.utopist_parser.specs.steps.Single.{is_word}
 use Rattle.utopist_parser.specs.Written.{OneOrMore}
 use Rattle.utopist_parser.specs.WrittenFile.{WrittenItem, WrittenConcept}
 use Rattle.utopist_parser.specs.ExprTree.{all_of}
 use Rattle.utopist_parser.specs.FileSymbols.{spell_parents, spell_concept}
 use Rattle.utopist_parser.specs.FileSeen.{all_if_any, see_item, see_concept}
 use Rattle.utopist_parser.specs.FileNesting.{IsItem, IsConcept}
-use Rattle.utopist_parser.specs.ReadingFile.{some_parents_at, parents_at, begins_item, items_at, concept_at}
+use Rattle.utopist_parser.specs.steps.ReadingFile.{some_parents_at, parents_at, begins_item, items_at, concept_at}
 use Rattle.utopist_parser.proofs.StepLaws.{Form, Aspect}
 use Rattle.utopist_parser.proofs.Sequence.{both}
 use Rattle.utopist_parser.proofs.Recast.{recast, reform, reform_keeps}

@@ -10,12 +10,12 @@ use Rattle.utopist_lexer.specs.declared.token.Kind.TheVariants as kinds
 use Rattle.utopist_parser.specs.declared.breadth.Breadth.{Breadth}
 use Rattle.utopist_parser.specs.declared.breadth.Breadth.TheVariants as breadth
 use Rattle.utopist_parser.specs.Symbols.{Symbol, mark}
-use Rattle.utopist_parser.specs.Steps.{StepOf, deep, next, meets, choose_at, deeper_at}
-use Rattle.utopist_parser.specs.Single.{is_word}
+use Rattle.utopist_parser.specs.steps.Steps.{StepOf, deep, next, meets, choose_at, deeper_at}
+use Rattle.utopist_parser.specs.steps.Single.{is_word}
 use Rattle.utopist_parser.specs.Written.{Sign, plus, minus, Scale, times, over, Expression, choice, plain, Chain, one_term, add, Term, one_factor, mul, Factor, negated, literal, variable, round, call, loop}
 use Rattle.utopist_parser.specs.ExprSymbols.{sign_mark, scale_mark, spell_expr, spell_chain, spell_term, spell_factor}
 use Rattle.utopist_parser.specs.Nesting.{nest_expr, nest_chain}
-use Rattle.utopist_parser.specs.ReadingExpr.{Nested, sign_of, scale_of, group_at, choice_step, factor_step, levels_within, factor_at, term_at, chain_at, expr_at}
+use Rattle.utopist_parser.specs.steps.ReadingExpr.{Nested, sign_of, scale_of, group_at, choice_step, factor_step, levels_within, factor_at, term_at, chain_at, expr_at}
 use Rattle.utopist_parser.proofs.StepLaws.{Form, AgainAt, Aspect, again_only, all_laws, Keeps, Fitting}
 use Rattle.utopist_parser.proofs.Recast.{recast, reform, reform_keeps, same_keeps}
 use Rattle.utopist_parser.proofs.Choice.{either, see_either}

@@ -14,14 +14,14 @@ use Rattle.utopist_syntax.specs.ExprTree.{ExprTrees}
 use Rattle.utopist_parser.specs.declared.breadth.Breadth.{Breadth}
 use Rattle.utopist_parser.specs.declared.breadth.Breadth.TheVariants as breadth
 use Rattle.utopist_parser.specs.Symbols.{Symbol, name, sub, fixed, mark}
-use Rattle.utopist_parser.specs.Steps.{StepOf, next, meets, choose_at, deeper_at}
-use Rattle.utopist_parser.specs.Single.{is_kind, is_word, is_mark, is_sub}
+use Rattle.utopist_parser.specs.steps.Steps.{StepOf, next, meets, choose_at, deeper_at}
+use Rattle.utopist_parser.specs.steps.Single.{is_kind, is_word, is_mark, is_sub}
 use Rattle.utopist_parser.specs.Written.{OneOrMore, WrittenPath, Expression, plain, Chain, one_term, Term, one_factor, Factor, negated, literal, variable, round, call, loop, Further, no_more, and_then}
 use Rattle.utopist_parser.specs.ExprSymbols.{loop_word, separated, behind, spell_path, spell_expr, spell_factor, spell_exprs}
 use Rattle.utopist_parser.specs.ExprTree.{all_of, see_expr, see_factor, see_exprs}
 use Rattle.utopist_parser.specs.Nesting.{nest_expr, nest_factor, nest_exprs}
 use Rattle.utopist_parser.specs.Arithmetic.{IsArithFactor}
-use Rattle.utopist_parser.specs.ReadingExpr.{Nested, trees_in, most, literal_step, variable_step, negated_step, round_step, call_step, loop_step, factor_step}
+use Rattle.utopist_parser.specs.steps.ReadingExpr.{Nested, trees_in, most, literal_step, variable_step, negated_step, round_step, call_step, loop_step, factor_step}
 use Rattle.utopist_parser.proofs.StepLaws.{Form, Aspect}
 use Rattle.utopist_parser.proofs.Recast.{recast, reform, reform_keeps}
 use Rattle.utopist_parser.proofs.Choice.{either, see_either}
@@ -63,7 +63,7 @@ list_most (and_then e more) = ap (λ (n : ℕ). max (nest_expr e) n) (list_most 
 -- ---- a factor as one of its forms
 
 abbrev Call : Type 0
-Call = (ℕ × Place) × (OneOrMore Expression × Unit {0})
+Call = ((ℕ × ℕ) × Place) × (OneOrMore Expression × Unit {0})
 
 abbrev Loop : Type 0
 Loop = LoopKind × (Named × (Expression × (Expression × (Expression × Unit {0}))))
@@ -163,8 +163,9 @@ module _ (b : Breadth) where
 
   call_opens : (c : Symbol) → is_sub c ≡ true → (x : Call) × (more : List Symbol) × ((call_form b).spell x ≡ c ∷ more) × (M : ℕ) × (call_form b).Fits x M
   call_opens (name n) e = absurd cc
-  call_opens (sub (pos k) p) e = (((k, p), (record { first = zero_expr; more = [] }, tt)), _, refl, 1, (tt, (tt, ((zero_fits b, tt), (tt, tt)))))
-  call_opens (sub (negsuc k) p) e = absurd cc
+  call_opens (sub (pos k) (pos j) p) e = ((((k, j), p), (record { first = zero_expr; more = [] }, tt)), _, refl, 1, (tt, (tt, ((zero_fits b, tt), (tt, tt)))))
+  call_opens (sub (pos k) (negsuc j) p) e = absurd cc
+  call_opens (sub (negsuc k) j p) e = absurd cc
   call_opens (fixed k) e = absurd cc
 
   round_opens : (c : Symbol) → is_mark marks.OpenRound c ≡ true → (x : Expression × Unit {0}) × (more : List Symbol) × ((round_form b).spell x ≡ c ∷ more) × (M : ℕ) × (round_form b).Fits x M
@@ -221,7 +222,7 @@ factor_spelled : (b : Breadth) (f : Factor) → (kinds_form b).spell (from_facto
 factor_spelled b (negated f) = refl
 factor_spelled b (round e) = refl
 factor_spelled b (call k place first more) =
-    ap (λ (l : List Symbol). sub (pos k) place ∷ mark marks.OpenRound ∷ l)
+    ap (λ (l : List Symbol). sub (pos k.0) (pos k.1) place ∷ mark marks.OpenRound ∷ l)
     (append_assoc (spell_expr first) (flat_map (behind marks.Comma spell_expr) (to_list more)) (mark marks.CloseRound ∷ [])
     ∙ ap (λ (l : List Symbol). spell_expr first ++ (l ++ (mark marks.CloseRound ∷ []))) (list_spelled more))
 factor_spelled b (loop kind n first second each) = refl
@@ -231,7 +232,7 @@ factor_spelled b (literal n) = refl
 factor_seen : (b : Breadth) (f : Factor) → seen_kinds b (from_factor f) ≡ seen_factor f
 factor_seen b (negated f) = refl
 factor_seen b (round e) = refl
-factor_seen b (call k place first more) = λ i. (tree.call (pos k) place (tree.more (see_expr first) (list_trees more i)), suc (max (nest_expr first) (list_most more i)))
+factor_seen b (call k place first more) = λ i. (tree.call (pos k.0) (pos k.1) place (tree.more (see_expr first) (list_trees more i)), suc (max (nest_expr first) (list_most more i)))
 factor_seen b (loop kind n first second each) = refl
 factor_seen b (variable p) = refl
 factor_seen b (literal n) = refl

@@ -7,13 +7,13 @@ use Rattle.utopist_lexer.specs.declared.token.Kind.TheVariants as kinds
 use Rattle.utopist_syntax.specs.declared.compute.Compute.{Compute}
 use Rattle.utopist_syntax.specs.FileTree.{ConceptTree, FileTree}
 use Rattle.utopist_parser.specs.Symbols.{Symbol}
-use Rattle.utopist_parser.specs.Steps.{next}
-use Rattle.utopist_parser.specs.Single.{is_word}
+use Rattle.utopist_parser.specs.steps.Steps.{next}
+use Rattle.utopist_parser.specs.steps.Single.{is_word}
 use Rattle.utopist_parser.specs.WrittenFile.{WrittenConcept, WrittenCompute, WrittenFile}
 use Rattle.utopist_parser.specs.FileSymbols.{spell_file}
 use Rattle.utopist_parser.specs.FileSeen.{see_concept, see_compute, see_file}
 use Rattle.utopist_parser.specs.FileNesting.{IsConcept, IsFile}
-use Rattle.utopist_parser.specs.ReadingFile.{concepts_at, computes_at, file_at}
+use Rattle.utopist_parser.specs.steps.ReadingFile.{concepts_at, computes_at, file_at}
 use Rattle.utopist_parser.proofs.StepLaws.{Form, Aspect}
 use Rattle.utopist_parser.proofs.Sequence.{both}
 use Rattle.utopist_parser.proofs.Recast.{recast, reform, reform_keeps}

@@ -4,7 +4,7 @@ use Rattle.std.specs.Prelude.{◌⊎◌}
 use Rattle.utopist_lexer.specs.declared.mark.Mark.{Mark}
 use Rattle.utopist_lexer.specs.declared.token.Kind.{Kind}
 use Rattle.utopist_parser.specs.Symbols.{Symbol}
-use Rattle.utopist_parser.specs.Single.{is_mark}
+use Rattle.utopist_parser.specs.steps.Single.{is_mark}
 use Rattle.utopist_parser.specs.Written.{OneOrMore}
 use Rattle.utopist_parser.proofs.StepLaws.{Form}
 use Rattle.utopist_parser.proofs.Sequence.{both}

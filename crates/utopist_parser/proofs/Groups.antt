@@ -4,8 +4,8 @@ use Rattle.std.specs.Prelude.{nat_le, ◌⊎◌}
 use Rattle.std.proofs.lemmas.List.{append-nil}
 use Rattle.body_lang.specs.declared.op.Op.{Op}
 use Rattle.utopist_parser.specs.Symbols.{Symbol}
-use Rattle.utopist_parser.specs.Steps.{Why, expected, deep, Miss, Reading, ReadOf, StepOf, on_ok, next}
-use Rattle.utopist_parser.specs.ReadingExpr.{Nested, op_over, one_more, more_at, group_at}
+use Rattle.utopist_parser.specs.steps.Steps.{Why, expected, deep, Miss, Reading, ReadOf, StepOf, on_ok, next}
+use Rattle.utopist_parser.specs.steps.ReadingExpr.{Nested, op_over, one_more, more_at, group_at}
 use Rattle.utopist_parser.proofs.StepLaws.{Reaches, reaches_up, AtHead, at_head, Form, Stuck, Further, Took, Blames, AgainAt, Laws, Aspect, again_only, all_laws, Keeps, failed_is, ok_is, then_ok, then_err}
 use Rattle.utopist_parser.proofs.Levels.{level, below, IfRoom, Rounds}
 

@@ -16,8 +16,8 @@ use Rattle.utopist_syntax.specs.FileTree as tree
 use Rattle.utopist_syntax.specs.FileTree.{ItemTree}
 use Rattle.utopist_parser.specs.declared.breadth.Breadth.TheVariants as breadth
 use Rattle.utopist_parser.specs.Symbols.{Symbol, mark}
-use Rattle.utopist_parser.specs.Steps.{next, meets}
-use Rattle.utopist_parser.specs.Single.{is_word, is_mark}
+use Rattle.utopist_parser.specs.steps.Steps.{next, meets}
+use Rattle.utopist_parser.specs.steps.Single.{is_word, is_mark}
 use Rattle.utopist_parser.specs.Written.{OneOrMore, WrittenPath, Expression, Chain}
 use Rattle.utopist_parser.specs.WrittenFile.{WrittenBind, WrittenKind, numeric, component, WrittenPart, input, subtask, WrittenItem, var, eq, rel}
 use Rattle.utopist_parser.specs.ExprSymbols.{behind}
@@ -25,7 +25,7 @@ use Rattle.utopist_parser.specs.ExprTree.{all_of, see_expr, see_chain}
 use Rattle.utopist_parser.specs.FileSymbols.{spell_option, spell_bind, spell_binds, spell_kind, spell_part, spell_parts, spell_body, spell_item}
 use Rattle.utopist_parser.specs.FileSeen.{all_if_any, see_option, see_path, see_bind, see_kind, see_binds, see_part, see_item}
 use Rattle.utopist_parser.specs.FileNesting.{IsBody, IsItem}
-use Rattle.utopist_parser.specs.ReadingFile.{bind_at, some_binds_at, binds_at, numeric_at, component_at, kind_at, var_at, eq_at, input_at, subtask_at, part_at, some_parts_at, begins_part, parts_at, some_body_at, body_at, rel_at, item_at, begins_item}
+use Rattle.utopist_parser.specs.steps.ReadingFile.{bind_at, some_binds_at, binds_at, numeric_at, component_at, kind_at, var_at, eq_at, input_at, subtask_at, part_at, some_parts_at, begins_part, parts_at, some_body_at, body_at, rel_at, item_at, begins_item}
 use Rattle.utopist_parser.proofs.StepLaws.{Form, Aspect}
 use Rattle.utopist_parser.proofs.Sequence.{both}
 use Rattle.utopist_parser.proofs.Recast.{recast, reform, reform_keeps}
@@ -220,27 +220,27 @@ eq_rule {m} {room} =
 
 -- ---- relations
 
--- "[" path {"," path} "->" path "]"
+-- "[" path {"," path} "->" path {"," path} "]"
 abbrev Subtask : Type 0
-Subtask = OneOrMore WrittenPath × (WrittenPath × Unit {0})
+Subtask = OneOrMore WrittenPath × (OneOrMore WrittenPath × Unit {0})
 
 abbrev see_subtask : Subtask → Part
-see_subtask p = parts.Subtask (map see_path (all_of p.0)) (see_path p.1.0)
+see_subtask p = parts.Subtask (map see_path (all_of p.0)) (map see_path (all_of p.1.0))
 
 abbrev subtask_form : Form Subtask
-subtask_form = after (kinds.Mark marks.OpenSquare) (both paths_form (after (kinds.Mark marks.Arrow) (both path_form (stop marks.CloseSquare))))
+subtask_form = after (kinds.Mark marks.OpenSquare) (both paths_form (after (kinds.Mark marks.Arrow) (both paths_form (stop marks.CloseSquare))))
 
 subtask_rule : {m : Aspect} {room : ℕ} → Rule m room subtask_form see_subtask subtask_at
 unfolding subtask_at
 subtask_rule =
     after_mark marks.OpenSquare
     (then_rule (λ is p. see_subtask (is, p)) _ paths_rule
-    (λ is. after_mark marks.Arrow (then_rule (λ o u. see_subtask (is, (o, u))) _ path_rule (λ o. stop_rule marks.CloseSquare (see_subtask (is, (o, tt)))) (λ o u rest s. path_stops o _ refl)))
+    (λ is. after_mark marks.Arrow (then_rule (λ o u. see_subtask (is, (o, u))) _ paths_rule (λ o. stop_rule marks.CloseSquare (see_subtask (is, (o, tt)))) (λ o u rest s. paths_stop o _ refl refl)))
     (λ is p rest s. paths_stop is _ refl refl))
 
 free_subtask : Free subtask_form
 free_subtask =
-    free_after (kinds.Mark marks.OpenSquare) (free_both free_paths (free_after (kinds.Mark marks.Arrow) (free_both free_path (free_stop marks.CloseSquare))))
+    free_after (kinds.Mark marks.OpenSquare) (free_both free_paths (free_after (kinds.Mark marks.Arrow) (free_both free_paths (free_stop marks.CloseSquare))))
 
 abbrev see_input : WrittenPath → Part
 see_input p = parts.Input (see_path p)

@@ -2,8 +2,8 @@
 use Rattle.std.proofs.Common.{◌≡◌, ℕ, zero, suc, ◌≤◌, Bool, true, false, cond, List, [], ◌∷◌, ◌++◌, length, Option, Some, Ok, Err, refl, sym, ap, subst, ◌∙◌, arith, inl, inr}
 use Rattle.std.specs.Prelude.{◌⊎◌}
 use Rattle.utopist_parser.specs.Symbols.{Symbol}
-use Rattle.utopist_parser.specs.Steps.{Why, expected, deep, Miss, Reading, ReadOf, StepOf, next, meets, choose_at, deeper, deeper_at}
-use Rattle.utopist_parser.specs.ReadingExpr.{Nested}
+use Rattle.utopist_parser.specs.steps.Steps.{Why, expected, deep, Miss, Reading, ReadOf, StepOf, next, meets, choose_at, deeper, deeper_at}
+use Rattle.utopist_parser.specs.steps.ReadingExpr.{Nested}
 use Rattle.utopist_parser.proofs.StepLaws.{Reaches, AtHead, at_head, Form, Stuck, Further, Took, Blames, AgainAt, Laws, Aspect, again_only, all_laws, Keeps, Fitting, failed_is, same_next}
 use Rattle.utopist_parser.proofs.Choice.{either, see_either, choose_keeps}
 

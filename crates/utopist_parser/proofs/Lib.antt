@@ -16,6 +16,7 @@ mod Levels
 mod Loops
 mod Lows
 mod Meeting
+mod NamesSeen
 mod NoEnd
 pub mod OneAnswer
 mod Operands
@@ -32,6 +33,8 @@ mod SameKind
 pub mod Scanning
 mod Sequence
 mod Singles
+mod Shaped
+mod Sliced
 mod Starts
 mod StepLaws
 mod Tokens

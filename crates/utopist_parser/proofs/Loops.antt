@@ -5,8 +5,8 @@ use Rattle.utopist_parser.specs.declared.parse_stop.ParseStop.{ParseStop}
 use Rattle.utopist_parser.specs.declared.parse_stop.ParseStop.TheVariants as stop
 use Rattle.utopist_lexer.specs.declared.token.Token.{Token}
 use Rattle.utopist_parser.specs.Symbols.{Symbol, symbol, symbols}
-use Rattle.utopist_parser.specs.Steps.{Reading, ReadOf, Miss, on_ok, next, meets, repeat_fuel}
-use Rattle.utopist_parser.specs.Answers.{Fails}
+use Rattle.utopist_parser.specs.steps.Steps.{Reading, ReadOf, Miss, on_ok, next, meets, repeat_fuel}
+use Rattle.utopist_parser.specs.steps.Answers.{Fails}
 
 -- what was read before, and what is still read
 abbrev pub with_front : {V : Type 0} → List V → Reading (List V) → Reading (List V)
@@ -21,10 +21,6 @@ regroup front v (Err e) = refl
 pub with_front-nil : {V : Type 0} (read : Reading (List V)) → with_front [] read ≡ read
 with_front-nil (Ok p) = refl
 with_front-nil (Err e) = refl
-
--- fewer tokens have fewer symbols
-pub fewer : (ts us : List Token) → length ts < length us → length (symbols ts) < length (symbols us)
-fewer ts us h = omega (arith, length-map ts symbol, length-map us symbol)
 
 -- a reading that fails where another does
 pub fails_on : {V W : Type 0} (e : ParseStop) (r : Reading V) (s : Reading W) → ((x : Miss) → r ≡ Err x → s ≡ Err x) → Fails e r → Fails e s

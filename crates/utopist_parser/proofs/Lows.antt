@@ -4,10 +4,10 @@ use Rattle.std.specs.Prelude.{◌⊎◌, ◌&&◌, None}
 use Rattle.utopist_parser.specs.declared.breadth.Breadth.{Breadth}
 use Rattle.utopist_parser.specs.declared.breadth.Breadth.TheVariants as breadth
 use Rattle.utopist_parser.specs.Symbols.{Symbol}
-use Rattle.utopist_parser.specs.Steps.{StepOf, next, meets, choose_at, deeper_at}
+use Rattle.utopist_parser.specs.steps.Steps.{StepOf, next, meets, choose_at, deeper_at}
 use Rattle.utopist_parser.specs.Written.{Expression, Chain, Term, Factor}
 use Rattle.utopist_parser.specs.ExprSymbols.{spell_expr, spell_chain, spell_term, spell_factor}
-use Rattle.utopist_parser.specs.ReadingExpr.{Nested, is_all, levels_within}
+use Rattle.utopist_parser.specs.steps.ReadingExpr.{Nested, is_all, levels_within}
 use Rattle.utopist_parser.proofs.StepLaws.{Form, AgainAt, Aspect, again_only, all_laws, Keeps, Fitting}
 use Rattle.utopist_parser.proofs.Recast.{reform, reform_keeps}
 use Rattle.utopist_parser.proofs.Choice.{either, see_either, never_keeps}

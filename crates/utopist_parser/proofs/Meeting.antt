@@ -3,8 +3,8 @@ use Rattle.std.proofs.Common.{◌≡◌, Bool, true, false, Option, Some, None, 
 use Rattle.utopist_lexer.specs.declared.token.Kind.{Kind}
 use Rattle.utopist_lexer.specs.Kinds.{same_kind}
 use Rattle.utopist_parser.specs.Symbols.{Symbol}
-use Rattle.utopist_parser.specs.Steps.{meets}
-use Rattle.utopist_parser.specs.Single.{kind_of, is_kind}
+use Rattle.utopist_parser.specs.steps.Steps.{meets}
+use Rattle.utopist_parser.specs.steps.Single.{kind_of, is_kind}
 use Rattle.utopist_parser.proofs.SameKind.{same_kind-true}
 
 -- a symbol of one kind is of no other

@@ -15,7 +15,7 @@ use Rattle.utopist_parser.specs.FileSymbols.{spell_file}
 use Rattle.utopist_parser.specs.FileSeen.{see_file}
 use Rattle.utopist_parser.specs.Begins.{max_nesting, BeginsWithin, BeginsFile, BeginsNone, BeginsTooDeep, SymbolAt, FirstWrong}
 use Rattle.utopist_parser.specs.Forms.{ReadsAs, FirstFault, FailsAs}
-use Rattle.utopist_parser.specs.ReadingFile.{file_at}
+use Rattle.utopist_parser.specs.steps.ReadingFile.{file_at}
 use Rattle.utopist_parser.proofs.Whole.{room, both_ok, file_again}
 
 -- ---- symbols that begin a file

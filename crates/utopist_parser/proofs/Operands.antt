@@ -6,11 +6,13 @@ use Rattle.body_lang.specs.declared.op.Op.{Op}
 use Rattle.utopist_lexer.specs.declared.token.Token.{Token}
 use Rattle.utopist_syntax.specs.ExprTree.{ExprTree, op}
 use Rattle.utopist_parser.specs.declared.breadth.Breadth.{Breadth}
+use Rattle.utopist_parser.specs.declared.group.Group.{Group}
+use Rattle.utopist_parser.specs.declared.group.Group.TheVariants as group
 use Rattle.utopist_parser.specs.declared.parse_stop.ParseStop.{ParseStop}
 use Rattle.utopist_parser.specs.Symbols.{Symbol, symbol, symbols}
-use Rattle.utopist_parser.specs.Steps.{Reading, ReadOf, Miss, deep, next}
-use Rattle.utopist_parser.specs.ReadingExpr.{Nested, op_over, more_at, sign_of, scale_of, levels_within, factor_at, term_at, chain_at}
-use Rattle.utopist_parser.specs.Answers.{Fails}
+use Rattle.utopist_parser.specs.steps.Steps.{Reading, ReadOf, Miss, deep, next}
+use Rattle.utopist_parser.specs.steps.ReadingExpr.{Nested, op_over, more_at, Levels, levels_within, factor_at, term_at, chain_at, operator_of, group_within, operand_at}
+use Rattle.utopist_parser.specs.steps.Answers.{Fails}
 use Rattle.utopist_parser.proofs.Loops.{fails_on}
 
 -- the test whether a number is small enough
@@ -70,53 +72,35 @@ module _ (find : Option Symbol → Option Op) (operand : ReadOf Nested) (room : 
     go zero k e = absurd (omega (arith, k, h))
     go (suc fuel) k e = record { fuel = fuel; enough = omega (arith, k); gives = e ∙ rw (sym i, at_most _ _ h, read) refl }
 
--- factors so far, of a whole term
-abbrev pub Factors : Breadth → ℕ → List Symbol → Nested → List Symbol → Type 0
-Factors b room ts = Operands scale_of (levels_within b room).factor room (term_at b room ts)
+-- the operands of a group one level below
+abbrev pub lower : Group → Levels → ReadOf Nested
+lower group.Chain low = low.term
+lower group.Term low = low.factor
 
--- terms so far, of a whole chain
-abbrev pub Terms : Breadth → ℕ → List Symbol → Nested → List Symbol → Type 0
-Terms b room ts = Operands sign_of (levels_within b room).term room (chain_at b room ts)
+-- how far a group is above factors
+abbrev pub rank : Group → ℕ
+rank group.Chain = 2
+rank group.Term = 0
 
--- a term begins with a factor
-pub first_factor : (b : Breadth) (room : ℕ) (ts : List Symbol) (v : Nested) (rest : List Symbol) → factor_at b room ts ≡ Ok (v, rest) → 1 ≤ v.1 → Factors b room ts v rest
+-- operands so far, of a whole group
+abbrev pub SoManyOperands : Group → Breadth → ℕ → List Symbol → Nested → List Symbol → Type 0
+SoManyOperands g b room ts = Operands (operator_of g) (lower g (levels_within b room)) room (group_within g b room ts)
+
+-- a group begins with an operand
+pub first_operand : (g : Group) (b : Breadth) (room : ℕ) (ts : List Symbol) (v : Nested) (rest : List Symbol) → operand_at g b room ts ≡ Ok (v, rest) → 1 ≤ v.1 → SoManyOperands g b room ts v rest
+unfolding factor_at term_at chain_at
+first_operand group.Chain b room ts v rest e h = record { fuel = room; enough = omega (arith, h); gives = rw e refl }
+first_operand group.Term b room ts v rest e h = record { fuel = room; enough = omega (arith, h); gives = rw e refl }
+
+-- the first operand fails, and the group with it
+pub no_operand : (g : Group) (b : Breadth) (room : ℕ) (e : ParseStop) (ts : List Symbol) → Fails e (operand_at g b room ts) → Fails e (group_within g b room ts)
+unfolding factor_at term_at chain_at
+no_operand group.Chain b room e ts h = fails_on e (term_at b room ts) (chain_at b room ts) (λ x i. rw i refl) h
+no_operand group.Term b room e ts h = fails_on e (factor_at b room ts) (term_at b room ts) (λ x i. rw i refl) h
+
+-- an operand one level below
+pub operand_below : (g : Group) (b : Breadth) (room : ℕ) → 0 < room → lower g (levels_within b room) ≡ operand_at g b (room - 1)
 unfolding factor_at term_at
-first_factor b room ts v rest e h = record { fuel = room; enough = omega (arith, h); gives = rw e refl }
-
--- the first factor fails, and the term with it
-pub no_factor : (b : Breadth) (room : ℕ) (e : ParseStop) (ts : List Symbol) → Fails e (factor_at b room ts) → Fails e (term_at b room ts)
-unfolding factor_at term_at
-no_factor b room e ts h = fails_on e (factor_at b room ts) (term_at b room ts) (λ x i. rw i refl) h
-
--- a chain begins with a term
-pub first_term : (b : Breadth) (room : ℕ) (ts : List Symbol) (v : Nested) (rest : List Symbol) → term_at b room ts ≡ Ok (v, rest) → 1 ≤ v.1 → Terms b room ts v rest
-unfolding term_at chain_at
-first_term b room ts v rest e h = record { fuel = room; enough = omega (arith, h); gives = rw e refl }
-
--- the first term fails, and the chain with it
-pub no_term : (b : Breadth) (room : ℕ) (e : ParseStop) (ts : List Symbol) → Fails e (term_at b room ts) → Fails e (chain_at b room ts)
-unfolding term_at chain_at
-no_term b room e ts h = fails_on e (term_at b room ts) (chain_at b room ts) (λ x i. rw i refl) h
-
--- a factor one level below
-pub factor_below : (b : Breadth) (room : ℕ) → 0 < room → (levels_within b room).factor ≡ factor_at b (room - 1)
-unfolding factor_at
-factor_below b zero h = absurd (omega (arith, h))
-factor_below b (suc room) h = let e : room ≡ suc room - 1 = omega arith in subst (λ k. (levels_within b (suc room)).factor ≡ factor_at b k) e refl
-
--- a term one level below
-pub term_below : (b : Breadth) (room : ℕ) → 0 < room → (levels_within b room).term ≡ term_at b (room - 1)
-unfolding term_at
-term_below b zero h = absurd (omega (arith, h))
-term_below b (suc room) h = let e : room ≡ suc room - 1 = omega arith in subst (λ k. (levels_within b (suc room)).term ≡ term_at b k) e refl
-
--- the symbols behind the next
-pub symbols_behind : (ts : List Token) → symbols (take (length ts - 1) (drop 1 ts)) ≡ drop 1 (symbols ts)
-symbols_behind ts = ap symbols (take_rest ts 1) ∙ behind ts where
-  behind : (us : List Token) → symbols (drop 1 us) ≡ drop 1 (symbols us)
-  behind [] = refl
-  behind (u ∷ us) = refl
-
--- as many symbols as tokens
-pub symbols_length : (ts : List Token) → length (symbols ts) ≡ length ts
-symbols_length ts = length-map ts symbol
+operand_below g b zero h = absurd (omega (arith, h))
+operand_below group.Chain b (suc room) h = let e : room ≡ suc room - 1 = omega arith in subst (λ k. (levels_within b (suc room)).term ≡ term_at b k) e refl
+operand_below group.Term b (suc room) h = let e : room ≡ suc room - 1 = omega arith in subst (λ k. (levels_within b (suc room)).factor ≡ factor_at b k) e refl

@@ -13,13 +13,13 @@ use Rattle.utopist_syntax.specs.Named.{Named}
 use Rattle.utopist_syntax.specs.ExprTree as tree
 use Rattle.utopist_parser.specs.declared.breadth.Breadth.{Breadth}
 use Rattle.utopist_parser.specs.Symbols.{Symbol, word, mark}
-use Rattle.utopist_parser.specs.Steps.{StepOf, meets, pick_at}
-use Rattle.utopist_parser.specs.Single.{is_word, is_mark}
+use Rattle.utopist_parser.specs.steps.Steps.{StepOf, meets, pick_at}
+use Rattle.utopist_parser.specs.steps.Single.{is_word, is_mark}
 use Rattle.utopist_parser.specs.Written.{OneOrMore, Expression, plain, Chain, one_term, Term, one_factor, Factor, literal}
 use Rattle.utopist_parser.specs.ExprSymbols.{cmp_mark, loop_word}
 use Rattle.utopist_parser.specs.ExprTree.{all_of, see_expr, see_chain, see_factor}
 use Rattle.utopist_parser.specs.Nesting.{nest_expr, nest_chain, nest_factor}
-use Rattle.utopist_parser.specs.ReadingExpr.{Nested, cmp_of, loop_of, trees_in, most, negated_step, round_step, call_step, loop_step, choice_step}
+use Rattle.utopist_parser.specs.steps.ReadingExpr.{Nested, cmp_of, loop_of, trees_in, most, negated_step, round_step, call_step, loop_step, choice_step}
 use Rattle.utopist_parser.proofs.SameKind.{some_same}
 use Rattle.utopist_parser.proofs.StepLaws.{Form, Aspect, Fitting}
 use Rattle.utopist_parser.proofs.Sequence.{both}
@@ -111,7 +111,7 @@ module _ (b : Breadth) where
   round_form = after (kinds.Mark marks.OpenRound) (both (low_expr_form b) (stop marks.CloseRound))
 
   -- Sub "(" expr {"," expr} ")"
-  abbrev pub call_form : Form ((ℕ × Place) × (OneOrMore Expression × Unit {0}))
+  abbrev pub call_form : Form (((ℕ × ℕ) × Place) × (OneOrMore Expression × Unit {0}))
   call_form = both sub_form (after (kinds.Mark marks.OpenRound) (both (separated_form marks.Comma (low_expr_form b)) (stop marks.CloseRound)))
 
   -- ("sum" | "prod" | "iter") "(" Name "," expr "," expr "," expr ")"
@@ -142,8 +142,8 @@ seen_negated f = (tree.neg (see_factor f), suc (nest_factor f))
 abbrev pub seen_round : Expression × Unit {0} → Nested
 seen_round p = (see_expr p.0, suc (nest_expr p.0))
 
-abbrev pub seen_call : (ℕ × Place) × (OneOrMore Expression × Unit {0}) → Nested
-seen_call p = (tree.call (pos p.0.0) p.0.1 (trees_in (map seen_expr (all_of p.1.0))), suc (most (map seen_expr (all_of p.1.0))))
+abbrev pub seen_call : ((ℕ × ℕ) × Place) × (OneOrMore Expression × Unit {0}) → Nested
+seen_call p = (tree.call (pos p.0.0.0) (pos p.0.0.1) p.0.1 (trees_in (map seen_expr (all_of p.1.0))), suc (most (map seen_expr (all_of p.1.0))))
 
 abbrev pub seen_loop : LoopKind × (Named × (Expression × (Expression × (Expression × Unit {0})))) → Nested
 seen_loop p =

@@ -1,7 +1,7 @@
 -- Parts of another type with the same symbols keep the laws.
 use Rattle.std.proofs.Common.{◌≡◌, ℕ, ◌≤◌, Option, List, ◌∷◌, ◌++◌, Ok, Err, sym, ap, subst, ◌∙◌}
 use Rattle.utopist_parser.specs.Symbols.{Symbol}
-use Rattle.utopist_parser.specs.Steps.{Why, expected, deep, Miss, Reading, StepOf, next}
+use Rattle.utopist_parser.specs.steps.Steps.{Why, expected, deep, Miss, Reading, StepOf, next}
 use Rattle.utopist_parser.proofs.StepLaws.{at_head, Form, Stuck, Further, Took, Blames, AgainAt, Laws, Aspect, again_only, all_laws, Keeps}
 
 -- the same parts, of another type

@@ -4,7 +4,7 @@ use Rattle.std.specs.Prelude.{◌⊎◌}
 use Rattle.std.specs.List.{flat_map}
 use Rattle.std.proofs.lemmas.List.{append-nil}
 use Rattle.utopist_parser.specs.Symbols.{Symbol}
-use Rattle.utopist_parser.specs.Steps.{Why, expected, deep, Miss, Reading, StepOf, on_ok, next, meets, repeat_fuel, repeat_at}
+use Rattle.utopist_parser.specs.steps.Steps.{Why, expected, deep, Miss, Reading, StepOf, on_ok, next, meets, repeat_fuel, repeat_at}
 use Rattle.utopist_parser.proofs.StepLaws.{Reaches, reaches_up, AtHead, at_head, Form, Stuck, Further, Took, Blames, AgainAt, Laws, Aspect, again_only, all_laws, Keeps, ok_is, then_ok, then_err, same_next}
 
 -- what begins has a symbol

@@ -7,10 +7,10 @@ use Rattle.utopist_lexer.specs.declared.token.Kind.{Kind}
 use Rattle.utopist_lexer.specs.declared.token.Kind.TheVariants as kinds
 use Rattle.utopist_syntax.specs.ExprTree.{num, path, neg, choice, loop, call}
 use Rattle.utopist_parser.specs.Symbols.{Symbol}
-use Rattle.utopist_parser.specs.Steps.{StepOf, ReadOf, on_ok, token_at, pick_at, repeat_fuel}
-use Rattle.utopist_parser.specs.Single.{want_kind, want_name, want_number, want_sub, natural, is_mark, fixed_at, name_at, number_at, sub_at}
-use Rattle.utopist_parser.specs.Lists.{separated_at, path_at}
-use Rattle.utopist_parser.specs.ReadingExpr.{Nested, settled, most, trees_in, negated_step, round_step, call_step, loop_of, loop_step, cmp_of, choice_step, literal_step, variable_step}
+use Rattle.utopist_parser.specs.steps.Steps.{StepOf, ReadOf, on_ok, token_at, pick_at, repeat_fuel}
+use Rattle.utopist_parser.specs.steps.Single.{want_kind, want_name, want_number, want_sub, natural, is_mark, fixed_at, name_at, number_at, sub_at}
+use Rattle.utopist_parser.specs.steps.Lists.{separated_at, path_at}
+use Rattle.utopist_parser.specs.steps.ReadingExpr.{Nested, settled, most, trees_in, negated_step, round_step, call_step, loop_of, loop_step, cmp_of, choice_step, literal_step, variable_step}
 
 -- one symbol
 token_same : {V : Type 0} (want : Symbol → Option V) (room : ℕ) → token_at want room ≡ token_at want 63
@@ -79,7 +79,7 @@ module _ (read : ReadOf Nested) (room : ℕ) where
       on_ok (fixed_same (kinds.Mark marks.OpenRound) room i k.1) (λ p.
       on_ok (separated_same marks.Comma (settled read) room refl i p.1) (λ q.
       on_ok (fixed_same (kinds.Mark marks.CloseRound) room i q.1) (λ r.
-      Ok ((call k.0.0 k.0.1 (trees_in q.0), suc (most q.0)), r.1)))))
+      Ok ((call k.0.0.0 k.0.0.1 k.0.1 (trees_in q.0), suc (most q.0)), r.1)))))
 
   -- a loop
   pub loop_same : loop_step (settled read) room ≡ loop_step (settled read) 63

@@ -8,9 +8,9 @@ use Rattle.utopist_lexer.specs.declared.token.Kind.{Kind}
 use Rattle.utopist_lexer.specs.declared.token.Kind.TheVariants as kinds
 use Rattle.utopist_lexer.specs.Places.{first_place}
 use Rattle.utopist_parser.specs.Symbols.{Symbol, mark}
-use Rattle.utopist_parser.specs.Steps.{StepOf, ◌>>=◌, give, next, meets, choose_at, repeat_at}
-use Rattle.utopist_parser.specs.Single.{is_mark, fixed_at, word_at, mark_at, name_at, number_at, divisor_at, sub_at}
-use Rattle.utopist_parser.specs.Lists.{next_at, separated_at}
+use Rattle.utopist_parser.specs.steps.Steps.{StepOf, ◌>>=◌, give, next, meets, choose_at, repeat_at}
+use Rattle.utopist_parser.specs.steps.Single.{is_mark, fixed_at, word_at, mark_at, name_at, number_at, divisor_at, sub_at}
+use Rattle.utopist_parser.specs.steps.Lists.{next_at, separated_at}
 use Rattle.utopist_parser.specs.Written.{OneOrMore}
 use Rattle.utopist_parser.specs.ExprSymbols.{separated}
 use Rattle.utopist_parser.specs.ExprTree.{all_of}
@@ -54,8 +54,8 @@ number_rule {m} {room} = record { keeps = number_keeps m room; some = 0; fits = 
 pub divisor_rule : {m : Aspect} {room : ℕ} → Rule m room divisor_form (λ n. pos (suc n)) divisor_at
 divisor_rule {m} {room} = record { keeps = divisor_keeps m room; some = 0; fits = fitting m divisor_form 0 room tt; enters = λ o. tt }
 
-pub sub_rule : {m : Aspect} {room : ℕ} → Rule m room sub_form (λ x. (pos x.0, x.1)) sub_at
-sub_rule {m} {room} = record { keeps = sub_keeps m room; some = (0, first_place); fits = fitting m sub_form (0, first_place) room tt; enters = λ o. tt }
+pub sub_rule : {m : Aspect} {room : ℕ} → Rule m room sub_form (λ x. ((pos x.0.0, pos x.0.1), x.1)) sub_at
+sub_rule {m} {room} = record { keeps = sub_keeps m room; some = ((0, 0), first_place); fits = fitting m sub_form ((0, 0), first_place) room tt; enters = λ o. tt }
 
 -- a fixed symbol, and then what follows
 after_rule : {Y V : Type 0} {m : Aspect} {room : ℕ} {d : Form Y} {see : Y → V} {f : StepOf V} (k : Kind) → IsFixed k → Rule m room d see f → Rule m room (after k d) see (fixed_at k >>= λ u. f)

@@ -17,7 +17,7 @@ use Rattle.utopist_lexer.specs.Tokens.{ReadsTo, Reads}
 use Rattle.utopist_lexer.specs.Scanning.{Scan, place_of, tok, IsNext, IsEnd, IsFault}
 use Rattle.utopist_lexer.proofs.Leads.{spells_something}
 use Rattle.utopist_parser.specs.Symbols.{symbol_at, symbol_of, symbol, symbols}
-use Rattle.utopist_parser.specs.Views.{end_at, TokensOf}
+use Rattle.utopist_parser.specs.steps.Views.{end_at, TokensOf}
 use Rattle.utopist_parser.proofs.SameKind.{same_kind-true, same_kind-refl}
 
 -- what was read, with each reading of what is left behind it, is a reading of the text

@@ -1,7 +1,7 @@
 -- One step after another keeps the laws.
 use Rattle.std.proofs.Common.{◌≡◌, ℕ, max, List, [], ◌∷◌, ◌++◌, Option, Ok, Err, refl, sym, ap, subst, ◌∙◌, append_assoc, arith, inl, inr}
 use Rattle.utopist_parser.specs.Symbols.{Symbol}
-use Rattle.utopist_parser.specs.Steps.{Why, expected, deep, Miss, StepOf, ◌>>=◌, give, next}
+use Rattle.utopist_parser.specs.steps.Steps.{Why, expected, deep, Miss, StepOf, ◌>>=◌, give, next}
 use Rattle.utopist_parser.proofs.StepLaws.{reaches_up, AtHead, at_head, Form, Stuck, Further, Took, Blames, AgainAt, Laws, Aspect, again_only, all_laws, Keeps, Fitting, ok_is, then_ok, then_err, same_next}
 
 -- one part after another, of which what stops the second may depend on the first

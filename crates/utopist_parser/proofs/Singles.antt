@@ -8,8 +8,8 @@ use Rattle.utopist_lexer.specs.Places.{first_place}
 use Rattle.utopist_lexer.specs.Kinds.{same_kind}
 use Rattle.utopist_syntax.specs.Named.{Named}
 use Rattle.utopist_parser.specs.Symbols.{Symbol, name, sub, number, fixed}
-use Rattle.utopist_parser.specs.Steps.{StepOf, ◌>>=◌}
-use Rattle.utopist_parser.specs.Single.{is_kind, want_kind, want_name, natural, positive, number_of, want_number, placed, want_sub, fixed_at, name_at, number_at, divisor_at, sub_at}
+use Rattle.utopist_parser.specs.steps.Steps.{StepOf, ◌>>=◌}
+use Rattle.utopist_parser.specs.steps.Single.{is_kind, want_kind, want_name, natural, naturals, positive, number_of, want_number, placed, want_sub, fixed_at, name_at, number_at, divisor_at, sub_at}
 use Rattle.utopist_parser.proofs.SameKind.{some_same, same_kind-true, same_kind-refl}
 use Rattle.utopist_parser.proofs.StepLaws.{Form, Aspect, Keeps, Fitting}
 use Rattle.utopist_parser.proofs.Sequence.{both, then_keeps}
@@ -26,7 +26,7 @@ abbrev pub IsFixed : Kind → Type 0
 IsFixed kinds.Name = ⊥
 IsFixed (kinds.Word w) = One
 IsFixed (kinds.Number i) = One
-IsFixed (kinds.Sub i) = ⊥
+IsFixed (kinds.Sub i j) = ⊥
 IsFixed (kinds.Mark m) = One
 IsFixed kinds.End = One
 
@@ -47,7 +47,7 @@ module _ (k : Kind) (is_fixed : IsFixed k) where
 
   pub fixed_is : (c : Symbol) → is_kind k c ≡ true → c ≡ fixed k
   fixed_is (name n) e = absurd (subst IsFixed (sym (same_kind-true kinds.Name k e)) is_fixed)
-  fixed_is (sub i p) e = absurd (subst IsFixed (sym (same_kind-true (kinds.Sub i) k e)) is_fixed)
+  fixed_is (sub i j p) e = absurd (subst IsFixed (sym (same_kind-true (kinds.Sub i j) k e)) is_fixed)
   fixed_is (fixed j) e = ap (λ (x : Kind). fixed x) (same_kind-true j k e)
 
   fixed_finds : (c : Symbol) (v : One) → want_kind k c ≡ Some v → (x : One) × (c ≡ fixed k) × (tt ≡ v)
@@ -66,7 +66,7 @@ module _ (k : Kind) (is_fixed : IsFixed k) where
 
 name_finds : (c : Symbol) (n : Named) → want_name c ≡ Some n → (x : Named) × (c ≡ name x) × (x ≡ n)
 name_finds (name m) n e = (m, refl, some_same m n e)
-name_finds (sub i p) n e = absurd cc
+name_finds (sub i j p) n e = absurd cc
 name_finds (fixed k) n e = absurd cc
 
 -- some name
@@ -94,11 +94,11 @@ positive_is (negsuc n) v e = absurd cc
 module _ (wants : ℤ → Option ℤ) (value : ℕ → ℤ) (found : (n : ℕ) → wants (value n) ≡ Some (value n)) (is : (i v : ℤ) → wants i ≡ Some v → (n : ℕ) × (i ≡ value n) × (value n ≡ v)) where
   number_finds : (c : Symbol) (v : ℤ) → want_number wants c ≡ Some v → (n : ℕ) × (c ≡ number (value n)) × (value n ≡ v)
   number_finds (name m) v e = absurd cc
-  number_finds (sub i p) v e = absurd cc
+  number_finds (sub i j p) v e = absurd cc
   number_finds (fixed kinds.Name) v e = absurd cc
   number_finds (fixed (kinds.Word w)) v e = absurd cc
   number_finds (fixed (kinds.Number i)) v e = let h = is i v e in (h.0, ap (λ (x : ℤ). number x) h.1, h.2)
-  number_finds (fixed (kinds.Sub i)) v e = absurd cc
+  number_finds (fixed (kinds.Sub i j)) v e = absurd cc
   number_finds (fixed (kinds.Mark m)) v e = absurd cc
   number_finds (fixed kinds.End) v e = absurd cc
 
@@ -121,18 +121,19 @@ divisor_keeps m room =
 
 -- ---- the number of a subtask
 
-placed_is : (p : Place) (i : ℤ) (v : ℤ × Place) → placed p (natural i) ≡ Some v → (x : ℕ × Place) × (sub i p ≡ sub (pos x.0) x.1) × ((pos x.0, x.1) ≡ v)
-placed_is p (pos n) v e = ((n, p), refl, some_same (pos n, p) v e)
-placed_is p (negsuc n) v e = absurd cc
+placed_is : (p : Place) (i j : ℤ) (v : (ℤ × ℤ) × Place) → placed p (naturals i j) ≡ Some v → (x : (ℕ × ℕ) × Place) × (sub i j p ≡ sub (pos x.0.0) (pos x.0.1) x.1) × (((pos x.0.0, pos x.0.1), x.1) ≡ v)
+placed_is p (pos n) (pos m) v e = (((n, m), p), refl, some_same ((pos n, pos m), p) v e)
+placed_is p (pos n) (negsuc m) v e = absurd cc
+placed_is p (negsuc n) j v e = absurd cc
 
-sub_finds : (c : Symbol) (v : ℤ × Place) → want_sub c ≡ Some v → (x : ℕ × Place) × (c ≡ sub (pos x.0) x.1) × ((pos x.0, x.1) ≡ v)
+sub_finds : (c : Symbol) (v : (ℤ × ℤ) × Place) → want_sub c ≡ Some v → (x : (ℕ × ℕ) × Place) × (c ≡ sub (pos x.0.0) (pos x.0.1) x.1) × (((pos x.0.0, pos x.0.1), x.1) ≡ v)
 sub_finds (name n) v e = absurd cc
-sub_finds (sub i p) v e = placed_is p i v e
+sub_finds (sub i j p) v e = placed_is p i j v e
 sub_finds (fixed k) v e = absurd cc
 
-abbrev pub sub_form : Form (ℕ × Place)
-sub_form = one_symbol (λ x. sub (pos x.0) x.1)
+abbrev pub sub_form : Form ((ℕ × ℕ) × Place)
+sub_form = one_symbol (λ x. sub (pos x.0.0) (pos x.0.1) x.1)
 
-pub sub_keeps : (m : Aspect) (room : ℕ) → Keeps m sub_form (λ x. (pos x.0, x.1)) sub_at room
+pub sub_keeps : (m : Aspect) (room : ℕ) → Keeps m sub_form (λ x. ((pos x.0.0, pos x.0.1), x.1)) sub_at room
 unfolding sub_at
-sub_keeps m room = token_keeps want_sub (λ x. sub (pos x.0) x.1) (λ x. (pos x.0, x.1)) (λ x. refl) sub_finds (0, first_place) m room
+sub_keeps m room = token_keeps want_sub (λ x. sub (pos x.0.0) (pos x.0.1) x.1) (λ x. ((pos x.0.0, pos x.0.1), x.1)) (λ x. refl) sub_finds ((0, 0), first_place) m room

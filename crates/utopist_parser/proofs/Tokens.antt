@@ -1,7 +1,7 @@
 -- The laws of one symbol that is wanted, alone and before another step.
 use Rattle.std.proofs.Common.{◌≡◌, ℕ, suc, List, [], ◌∷◌, length, Option, Some, None, Ok, Err, refl, ap, subst, ◌∙◌, arith}
 use Rattle.utopist_parser.specs.Symbols.{Symbol}
-use Rattle.utopist_parser.specs.Steps.{expected, Miss, Reading, token_value, token_at, picked, pick_at}
+use Rattle.utopist_parser.specs.steps.Steps.{expected, Miss, Reading, token_value, token_at, picked, pick_at}
 use Rattle.utopist_parser.proofs.StepLaws.{Form, Took, Blames, Laws, Aspect, again_only, all_laws, Keeps, failed_is, ok_is}
 use Rattle.utopist_parser.proofs.Recast.{same_keeps}
 

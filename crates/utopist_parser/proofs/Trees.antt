@@ -32,5 +32,5 @@ choice_tree c a b t e = ap tree_of (sym (variants.rolls-If c a b t e)) ∙ fold-
 pub loop_tree : (kind : LoopKind) (n : Named) (a b e : Expr) → tree_of (views.Loop kind n a b e) ≡ loop kind n (tree_of a) (tree_of b) (tree_of e)
 loop_tree kind n a b e = ap tree_of (sym (variants.rolls-Loop kind n a b e)) ∙ fold-roll-Expr ExprTree expr_node (Expr-F.Loop kind n a b e)
 
-pub call_tree : (k : ℤ) (p : Place) (args : List Expr) → tree_of (views.Call k p args) ≡ call k p (trees_of args)
-call_tree k p args = ap tree_of (sym (variants.rolls-Call k p args)) ∙ fold-roll-Expr ExprTree expr_node (Expr-F.Call k p args)
+pub call_tree : (k out : ℤ) (p : Place) (args : List Expr) → tree_of (views.Call k out p args) ≡ call k out p (trees_of args)
+call_tree k out p args = ap tree_of (sym (variants.rolls-Call k out p args)) ∙ fold-roll-Expr ExprTree expr_node (Expr-F.Call k out p args)

@@ -18,18 +18,17 @@ use Rattle.utopist_syntax.specs.FileTree.{FileTree, file_tree}
 use Rattle.utopist_parser.specs.declared.parser.ParseFault.{ParseFault}
 use Rattle.utopist_parser.specs.declared.parser.ParseFault.TheVariants as fault
 use Rattle.utopist_parser.specs.Symbols.{Symbol, symbol_of, symbol, symbols, end}
-use Rattle.utopist_parser.specs.Views.{end_at, WholeTokens, FaultyTokens, TokensOf}
+use Rattle.utopist_parser.specs.steps.Views.{end_at, WholeTokens, FaultyTokens, TokensOf}
 use Rattle.utopist_syntax.specs.declared.compute.Compute.{Compute}
-use Rattle.utopist_syntax.specs.Asks.{AllAsk}
 use Rattle.utopist_parser.specs.WrittenFile.{WrittenCompute, WrittenFile}
 use Rattle.utopist_parser.specs.FileSymbols.{spell_file}
 use Rattle.utopist_parser.specs.FileSeen.{see_compute, see_file}
 use Rattle.utopist_parser.specs.FileNesting.{IsFile}
 use Rattle.utopist_parser.specs.Begins.{BeginsWithin, BeginsNone, BeginsTooDeep, FirstWrong}
 use Rattle.utopist_parser.specs.Forms.{ReadsAs, FirstFault, HasNoTree, ParseOf}
-use Rattle.utopist_parser.specs.Steps.{Reading, Why, Miss, expected, deep}
-use Rattle.utopist_parser.specs.ReadingFile.{file_at}
-use Rattle.utopist_parser.specs.Answers.{PlaceFrom, PlaceOf}
+use Rattle.utopist_parser.specs.steps.Steps.{Reading, Why, Miss, expected, deep}
+use Rattle.utopist_parser.specs.steps.ReadingFile.{file_at}
+use Rattle.utopist_parser.specs.steps.Answers.{PlaceFrom, PlaceOf}
 use Rattle.utopist_parser.proofs.StepLaws.{AtHead, Stuck, Further, Blames, Laws, all_laws}
 use Rattle.utopist_parser.proofs.FileRules.{file_grows, file_form, file_rule}
 use Rattle.utopist_parser.proofs.NoEnd.{front_of, front_no_end, file_ends, reads_no_end, ends_once, no_end_inside}
@@ -259,12 +258,3 @@ module _ (text : List ℕ) (items : List Token) (o : Option LexFault) (t : Token
   pub fault_is : (r : Result Place LexFault) → PlaceOf items left o r → Answered text why r
   fault_is r h =
       let b = blames_of items (why, left) failed in place_at b.front b.wrong b.split b.size b.begun b.fits b.more b.begins b.stuck b.further r h
-
--- ---- what is asked for
-
-wanted : (cs : List WrittenCompute) → All (λ (c : Compute). c.wants ≢ []) (map see_compute cs)
-wanted cs = All-map (λ (c : Compute). c.wants ≢ []) see_compute cs (λ k d l e. cc)
-
--- each compute statement of what was read asks for something
-pub all_ask : (text : List ℕ) (f : FileTree) → ReadsAs text f → AllAsk f
-all_ask text f r = subst AllAsk r.tree (wanted r.written.computes)

@@ -83,16 +83,16 @@ ParenthesesVanish =
 -- if a < b then $1(a, b) else sum(b, 1, a.b, b)
 abbrev pub branches : Expression
 branches =
-    choice (chain_of (var a)) cmps.Less (chain_of (var b)) (expr_of (call 1 first_place (expr_of (var a)) (and_then (expr_of (var b)) no_more)))
+    choice (chain_of (var a)) cmps.Less (chain_of (var b)) (expr_of (call (1, 2) first_place (expr_of (var a)) (and_then (expr_of (var b)) no_more)))
     (expr_of (loop loops.Sum b (expr_of (literal 1)) (expr_of (variable (record { first = a; more = b ∷ [] }))) (expr_of (var b))))
 
 -- a choice in parentheses holds a call and a loop, and in the loop a path of two names
 abbrev pub ChoicesHoldCallsAndLoops : Type 0
 ChoicesHoldCallsAndLoops =
     HasReading (chain_of (round branches))
-    (mark marks.OpenRound ∷ word words.If ∷ name a ∷ mark marks.Less ∷ name b ∷ word words.Then ∷ sub (pos 1) first_place ∷ mark marks.OpenRound ∷ name a ∷ mark marks.Comma ∷ name b ∷ mark marks.CloseRound
+    (mark marks.OpenRound ∷ word words.If ∷ name a ∷ mark marks.Less ∷ name b ∷ word words.Then ∷ sub (pos 1) (pos 2) first_place ∷ mark marks.OpenRound ∷ name a ∷ mark marks.Comma ∷ name b ∷ mark marks.CloseRound
     ∷ word words.Else ∷ word words.Sum ∷ mark marks.OpenRound ∷ name b ∷ mark marks.Comma ∷ number (pos 1) ∷ mark marks.Comma ∷ name a ∷ mark marks.Dot ∷ name b ∷ mark marks.Comma ∷ name b ∷ mark marks.CloseRound ∷ mark marks.CloseRound ∷ [])
-    (tree.choice cmps.Less (leaf a) (leaf b) (tree.call (pos 1) first_place (tree.more (leaf a) (tree.more (leaf b) tree.none)))
+    (tree.choice cmps.Less (leaf a) (leaf b) (tree.call (pos 1) (pos 2) first_place (tree.more (leaf a) (tree.more (leaf b) tree.none)))
     (tree.loop loops.Sum b (tree.num (pos 1)) (tree.path (a ∷ b ∷ [])) (leaf b))) 4
 
 -- ---- nesting

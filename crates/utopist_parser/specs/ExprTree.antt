@@ -42,7 +42,7 @@ abbrev mutual
   see_factor (literal n) = tree.num (pos n)
   see_factor (variable p) = tree.path (all_of p)
   see_factor (round e) = see_expr e
-  see_factor (call k place first more) = tree.call (pos k) place (tree.more (see_expr first) (see_exprs more))
+  see_factor (call k place first more) = tree.call (pos k.0) (pos k.1) place (tree.more (see_expr first) (see_exprs more))
   see_factor (loop kind n first second each) = tree.loop kind n (see_expr first) (see_expr second) (see_expr each)
 
   -- the trees of further arguments

@@ -1,5 +1,4 @@
 pub mod Symbols
-pub mod Views
 pub mod Written
 pub mod ExprSymbols
 pub mod ExprTree
@@ -14,9 +13,5 @@ pub mod FileExample
 pub mod Begins
 pub mod Cases
 pub mod Forms
-pub mod Steps
-pub mod Single
-pub mod Lists
-pub mod ReadingExpr
-pub mod ReadingFile
-pub mod Answers
+pub mod Slices
+pub mod steps

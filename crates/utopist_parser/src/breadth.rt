@@ -6,3 +6,6 @@ pub enum Breadth {
     /// Numbers, paths, operators and parentheses alone.
     Arithmetic,
 }
+
+/// The room of a whole expression: what is read at a room is nested at most one more.
+pub const MOST_ROOM: u32 = 63;

@@ -1,147 +1,143 @@
-//! Reading expressions.
-ghost use Rattle.std.specs.Prelude.{◌≡◌, ◌<◌, ◌≤◌, ◌+◌, ◌-◌, suc, length, Ok, IfOk};
-ghost use Rattle.utopist_syntax.specs.View.{tree_of};
-ghost use Rattle.utopist_parser.specs.Answers.{Gives};
-ghost use Rattle.utopist_parser.specs.ReadingExpr.{begins_call, begins_loop, begins_choice, factor_at, term_at, chain_at, expr_at};
-ghost use Rattle.utopist_parser.specs.Steps.{next, meets, deeper};
-ghost use Rattle.utopist_parser.specs.Symbols.{symbols};
+//! Expressions.
+ghost use Rattle.std.specs.Prelude.{◌≡◌, ◌<◌, ◌≤◌, ◌+◌, ◌-◌, suc, length, Ok, IfOk, OnOk};
+ghost use Rattle.utopist_parser.specs.steps.Answers.{Gives, ReadThrough};
+ghost use Rattle.utopist_parser.specs.steps.ReadingExpr.{as_nested, settled, begins_call, begins_loop, begins_choice, factor_at, expr_at, group_within, operand_at};
+ghost use Rattle.utopist_parser.specs.steps.Steps.{next, meets, deeper};
 
-use crate::breadth::Breadth;
-use crate::forms::{call_at, choice_at, literal_at, loop_at, negated_at, round_at, variable_at};
+use crate::breadth::{Breadth, MOST_ROOM};
+use crate::forms::{
+    read_call, read_choice, read_literal, read_loop, read_negated, read_round, read_variable,
+};
+use crate::group::Group;
 use crate::nodes::operation_of;
-use crate::operators::{scale_of, sign_of};
+use crate::operators::operator_of;
 use crate::parse_stop::ParseStop;
-use crate::step::{next_is, next_is_sub};
-use std::alloc::Global;
-use utopist_lexer::{Kind, Mark, Token, Word};
+use crate::reader::Reader;
+use utopist_lexer::{Kind, Mark, Word};
 use utopist_syntax::Expr;
 
 #[cycle(reading)]
-pub fn expr_at<'t, 'a>(
-    alloc: Global,
-    tokens: &'t [Token<'a>],
+pub fn read_expr<'a>(
+    reader: &mut Reader<'_, 'a>,
     breadth: Breadth,
     room: u32,
-) -> Result<(Expr, u32, &'t [Token<'a>]), ParseStop>
-    requires { room < 64 }
-    ensures gives { Gives (λ x. ((tree_of x.0, x.1), symbols x.2.now)) result (expr_at breadth room (symbols tokens.entry.now)) }
+) -> Result<(Expr<'a>, u32), ParseStop>
+    requires { room ≤ MOST_ROOM }
+    ensures reads { ReadThrough as_nested (settled (expr_at breadth room)) reader.old result reader.new }
     ensures within { IfOk result (λ x. (1 ≤ x.1) × (x.1 ≤ room + 1)) }
-    ensures shorter { IfOk result (λ x. length x.2.now < length tokens.entry.now) }
+    ensures shorter { OnOk result (length reader.new < length reader.old) }
 {
-    if begins_choice(tokens, breadth) {
-        let below = one_below(tokens, room)?;
-        choice_at(alloc, tokens, breadth, below)
+    if begins_choice(reader, breadth) {
+        let below = one_below(reader, room)?;
+        read_choice(reader, breadth, below)
     } else {
-        chain_at(alloc, tokens, breadth, room)
+        read_group(reader, Group::Chain, breadth, room)
     }
 }
 
+/// A chain or a term.
 #[cycle(reading)]
-pub fn chain_at<'t, 'a>(
-    alloc: Global,
-    tokens: &'t [Token<'a>],
+pub fn read_group<'a>(
+    reader: &mut Reader<'_, 'a>,
+    group: Group,
     breadth: Breadth,
     room: u32,
-) -> Result<(Expr, u32, &'t [Token<'a>]), ParseStop>
-    requires { room < 64 }
-    ensures gives { Gives (λ x. ((tree_of x.0, x.1), symbols x.2.now)) result (chain_at breadth room (symbols tokens.entry.now)) }
+) -> Result<(Expr<'a>, u32), ParseStop>
+    requires { room ≤ MOST_ROOM }
+    ensures reads { ReadThrough as_nested (settled (group_within group breadth room)) reader.old result reader.new }
     ensures within { IfOk result (λ x. (1 ≤ x.1) × (x.1 ≤ room + 1)) }
-    ensures shorter { IfOk result (λ x. length x.2.now < length tokens.entry.now) }
+    ensures shorter { OnOk result (length reader.new < length reader.old) }
 {
-    let (mut tree, mut nest, mut rest) = term_at(alloc, tokens, breadth, room)?;
-    'parts: while let Some(op) = sign_of(rest) {
+    let (mut tree, mut nest) = read_operand(reader, group, breadth, room)?;
+    'parts: while let Some(op) = operator_of(reader, group) {
         if nest > room {
-            return Err(ParseStop::TooDeep(rest.len()));
+            return Err(reader.too_deep());
         }
-        let (part, deep, after) = term_at(alloc, &rest[1..], breadth, room - 1)?;
-        tree = operation_of(alloc, op, tree, part)?;
+        reader.advance();
+        let (part, deep) = read_operand(reader, group, breadth, room - 1)?;
+        tree = operation_of(reader.alloc, op, tree, part)?;
         nest = nest.max(deep) + 1;
-        rest = after;
     }
-    Ok((tree, nest, rest))
+    Ok((tree, nest))
 }
 
 #[cycle(reading)]
-fn term_at<'t, 'a>(
-    alloc: Global,
-    tokens: &'t [Token<'a>],
+fn read_operand<'a>(
+    reader: &mut Reader<'_, 'a>,
+    group: Group,
     breadth: Breadth,
     room: u32,
-) -> Result<(Expr, u32, &'t [Token<'a>]), ParseStop>
-    requires { room < 64 }
-    ensures gives { Gives (λ x. ((tree_of x.0, x.1), symbols x.2.now)) result (term_at breadth room (symbols tokens.entry.now)) }
+) -> Result<(Expr<'a>, u32), ParseStop>
+    requires { room ≤ MOST_ROOM }
+    ensures reads { ReadThrough as_nested (settled (operand_at group breadth room)) reader.old result reader.new }
     ensures within { IfOk result (λ x. (1 ≤ x.1) × (x.1 ≤ room + 1)) }
-    ensures shorter { IfOk result (λ x. length x.2.now < length tokens.entry.now) }
+    ensures shorter { OnOk result (length reader.new < length reader.old) }
 {
-    let (mut tree, mut nest, mut rest) = factor_at(alloc, tokens, breadth, room)?;
-    'parts: while let Some(op) = scale_of(rest) {
-        if nest > room {
-            return Err(ParseStop::TooDeep(rest.len()));
-        }
-        let (part, deep, after) = factor_at(alloc, &rest[1..], breadth, room - 1)?;
-        tree = operation_of(alloc, op, tree, part)?;
-        nest = nest.max(deep) + 1;
-        rest = after;
+    match group {
+        Group::Chain => read_group(reader, Group::Term, breadth, room),
+        Group::Term => read_factor(reader, breadth, room),
     }
-    Ok((tree, nest, rest))
 }
 
 #[cycle(reading)]
-pub fn factor_at<'t, 'a>(
-    alloc: Global,
-    tokens: &'t [Token<'a>],
+pub fn read_factor<'a>(
+    reader: &mut Reader<'_, 'a>,
     breadth: Breadth,
     room: u32,
-) -> Result<(Expr, u32, &'t [Token<'a>]), ParseStop>
-    requires { room < 64 }
-    ensures gives { Gives (λ x. ((tree_of x.0, x.1), symbols x.2.now)) result (factor_at breadth room (symbols tokens.entry.now)) }
+) -> Result<(Expr<'a>, u32), ParseStop>
+    requires { room ≤ MOST_ROOM }
+    ensures reads { ReadThrough as_nested (settled (factor_at breadth room)) reader.old result reader.new }
     ensures within { IfOk result (λ x. (1 ≤ x.1) × (x.1 ≤ room + 1)) }
-    ensures shorter { IfOk result (λ x. length x.2.now < length tokens.entry.now) }
+    ensures shorter { OnOk result (length reader.new < length reader.old) }
 {
-    if next_is(tokens, Kind::Mark(Mark::Minus)) {
-        negated_at(alloc, tokens, breadth, one_below(tokens, room)?)
-    } else if next_is(tokens, Kind::Mark(Mark::OpenRound)) {
-        round_at(alloc, tokens, breadth, one_below(tokens, room)?)
-    } else if begins_call(tokens, breadth) {
-        call_at(alloc, tokens, breadth, one_below(tokens, room)?)
-    } else if begins_loop(tokens, breadth) {
-        loop_at(alloc, tokens, breadth, one_below(tokens, room)?)
-    } else if next_is(tokens, Kind::Name) {
-        variable_at(alloc, tokens)
+    if reader.next_is_mark(Mark::Minus) {
+        let below = one_below(reader, room)?;
+        read_negated(reader, breadth, below)
+    } else if reader.next_is_mark(Mark::OpenRound) {
+        let below = one_below(reader, room)?;
+        read_round(reader, breadth, below)
+    } else if begins_call(reader, breadth) {
+        let below = one_below(reader, room)?;
+        read_call(reader, breadth, below)
+    } else if begins_loop(reader, breadth) {
+        let below = one_below(reader, room)?;
+        read_loop(reader, breadth, below)
+    } else if reader.next_is(Kind::Name) {
+        read_variable(reader)
     } else {
-        literal_at(tokens)
+        read_literal(reader)
     }
 }
 
 // The room for what is one level below, where there is room for it.
-fn one_below(tokens: &[Token], room: u32) -> Result<u32, ParseStop>
-    ensures gives { Gives (λ x. (x, symbols tokens.now)) result (deeper room (symbols tokens.now) (Ok (room - 1, symbols tokens.now))) }
+fn one_below(reader: &Reader, room: u32) -> Result<u32, ParseStop>
+    ensures gives { Gives (λ x. (x, reader.now)) result (deeper room reader.now (Ok (room - 1, reader.now))) }
     ensures below { IfOk result (λ x. room ≡ suc x) }
 {
     if room == 0 {
-        Err(ParseStop::TooDeep(tokens.len()))
+        Err(reader.too_deep())
     } else {
         Ok(room - 1)
     }
 }
 
-fn begins_call(tokens: &[Token], breadth: Breadth) -> bool
-    ensures { result ≡ meets (begins_call breadth) (next (symbols tokens.now)) }
+fn begins_call(reader: &Reader, breadth: Breadth) -> bool
+    ensures { result ≡ meets (begins_call breadth) (next reader.now) }
 {
-    breadth == Breadth::All && next_is_sub(tokens)
+    breadth == Breadth::All && reader.next_is_sub()
 }
 
-fn begins_loop(tokens: &[Token], breadth: Breadth) -> bool
-    ensures { result ≡ meets (begins_loop breadth) (next (symbols tokens.now)) }
+fn begins_loop(reader: &Reader, breadth: Breadth) -> bool
+    ensures { result ≡ meets (begins_loop breadth) (next reader.now) }
 {
     breadth == Breadth::All
-        && (next_is(tokens, Kind::Word(Word::Sum))
-            || next_is(tokens, Kind::Word(Word::Prod))
-            || next_is(tokens, Kind::Word(Word::Iter)))
+        && (reader.next_is_word(Word::Sum)
+            || reader.next_is_word(Word::Prod)
+            || reader.next_is_word(Word::Iter))
 }
 
-fn begins_choice(tokens: &[Token], breadth: Breadth) -> bool
-    ensures { result ≡ meets (begins_choice breadth) (next (symbols tokens.now)) }
+fn begins_choice(reader: &Reader, breadth: Breadth) -> bool
+    ensures { result ≡ meets (begins_choice breadth) (next reader.now) }
 {
-    breadth == Breadth::All && next_is(tokens, Kind::Word(Word::If))
+    breadth == Breadth::All && reader.next_is_word(Word::If)
 }

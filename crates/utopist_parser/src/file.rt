@@ -1,26 +1,21 @@
-//! Reading a file.
+//! A file.
+ghost use Rattle.std.specs.Prelude.{◌≡◌};
 ghost use Rattle.utopist_syntax.specs.FileTree.{file_tree};
-ghost use Rattle.utopist_parser.specs.Answers.{Gives};
-ghost use Rattle.utopist_parser.specs.ReadingFile.{file_at};
-ghost use Rattle.utopist_parser.specs.Symbols.{symbols};
+ghost use Rattle.utopist_parser.specs.steps.Answers.{ReadThrough};
+ghost use Rattle.utopist_parser.specs.steps.ReadingFile.{file_at};
 
-use crate::compute::computes_at;
-use crate::concept::concepts_at;
+use crate::entry::repeated;
 use crate::parse_stop::ParseStop;
-use crate::step::fixed_at;
-use std::alloc::Global;
-use utopist_lexer::{Kind, Token};
+use crate::reader::Reader;
+use utopist_lexer::Kind;
 use utopist_syntax::File;
 
-#[tactic(auto, unfolding(crate::specs::ReadingFile::file_at))]
-pub fn file_at<'t, 'a>(
-    alloc: Global,
-    tokens: &'t [Token<'a>],
-) -> Result<(File, &'t [Token<'a>]), ParseStop>
-    ensures { Gives (λ x. (file_tree x.0, symbols x.1.now)) result (file_at 63 (symbols tokens.entry.now)) }
+#[tactic(auto, using(crate::proofs::Starts::seen_plainly), unfolding(crate::specs::steps::ReadingFile::file_at, crate::specs::steps::ReadingFile::concepts_at, crate::specs::steps::ReadingFile::computes_at))]
+pub fn read_file<'a>(reader: &mut Reader<'_, 'a>) -> Result<File<'a>, ParseStop>
+    ensures { ReadThrough file_tree file_at reader.old result reader.new }
 {
-    let (concepts, rest) = concepts_at(alloc, tokens)?;
-    let (computes, rest) = computes_at(alloc, rest)?;
-    let rest = fixed_at(rest, Kind::End)?;
-    Ok((File { concepts, computes }, rest))
+    let concepts = repeated(reader)?;
+    let computes = repeated(reader)?;
+    reader.fixed(Kind::End)?;
+    Ok(File { concepts, computes })
 }

@@ -1,195 +1,176 @@
-//! Reading the forms of expressions. The room is that of their parts.
-ghost use Rattle.std.specs.Prelude.{◌≡◌, ◌<◌, ◌≤◌, ◌+◌, ℕ, length, Ok, IfOk};
+//! The forms of expressions. The room is that of their parts.
+ghost use Rattle.std.specs.Prelude.{◌≡◌, ◌<◌, ◌≤◌, ◌+◌, ℕ, length, Ok, IfOk, OnOk};
 ghost use Rattle.utopist_lexer.specs.declared.mark.Mark.TheVariants.{Comma};
 ghost use Rattle.utopist_syntax.specs.ExprTree.{ExprTrees};
-ghost use Rattle.utopist_syntax.specs.View.{tree_of, trees_of};
-ghost use Rattle.utopist_parser.specs.Answers.{Gives};
-ghost use Rattle.utopist_parser.specs.Lists.{separated_at};
-ghost use Rattle.utopist_parser.specs.Single.{fixed_at};
-ghost use Rattle.utopist_parser.specs.ReadingExpr.{settled, negated_step, round_step, call_step, loop_step, choice_step, literal_step, variable_step, trees_in, most, factor_at, chain_at, expr_at};
-ghost use Rattle.utopist_parser.specs.Steps.{on_ok};
-ghost use Rattle.utopist_parser.specs.Symbols.{symbols};
+ghost use Rattle.utopist_syntax.specs.View.{trees_of};
+ghost use Rattle.utopist_parser.specs.steps.Answers.{Gives, ReadThrough};
+ghost use Rattle.utopist_parser.specs.steps.Lists.{separated_at};
+ghost use Rattle.utopist_parser.specs.steps.ReadingExpr.{as_nested, settled, behind_step, negated_step, round_step, call_step, loop_step, choice_step, literal_step, variable_step, trees_in, most, factor_at, chain_at, expr_at};
+ghost use Rattle.utopist_parser.specs.steps.Steps.{on_ok};
 
-use crate::breadth::Breadth;
-use crate::expr::{chain_at, expr_at, factor_at};
+use crate::breadth::{Breadth, MOST_ROOM};
+use crate::expr::{read_expr, read_factor, read_group};
+use crate::group::Group;
 use crate::nodes::{call_of, choice_of, loop_of, negation_of, number_of, variable_of};
-use crate::operators::{cmp_at, loop_kind_at};
+use crate::operators::{read_cmp, read_loop_kind};
 use crate::parse_stop::ParseStop;
-use crate::paths::path_at;
-use crate::step::{fixed_at, name_at, next_is, number_at, sub_at};
+use crate::production::Production;
+use crate::reader::Reader;
 use sqlite_items::Items;
-use std::alloc::Global;
-use utopist_lexer::{Kind, Mark, Token, Word};
-use utopist_syntax::Expr;
-
-const OPEN: Kind = Kind::Mark(Mark::OpenRound);
-
-const CLOSE: Kind = Kind::Mark(Mark::CloseRound);
+use utopist_lexer::{Kind, Mark, Word};
+use utopist_syntax::{Expr, Path};
 
 const COMMA: Kind = Kind::Mark(Mark::Comma);
 
 #[cycle(reading)]
-pub fn negated_at<'t, 'a>(
-    alloc: Global,
-    tokens: &'t [Token<'a>],
+pub fn read_negated<'a>(
+    reader: &mut Reader<'_, 'a>,
     breadth: Breadth,
     room: u32,
-) -> Result<(Expr, u32, &'t [Token<'a>]), ParseStop>
-    requires { room < 63 }
-    ensures gives { Gives (λ x. ((tree_of x.0, x.1), symbols x.2.now)) result (negated_step (settled (factor_at breadth room)) 63 (symbols tokens.entry.now)) }
+) -> Result<(Expr<'a>, u32), ParseStop>
+    requires { room < MOST_ROOM }
+    ensures reads { ReadThrough as_nested (negated_step (settled (factor_at breadth room))) reader.old result reader.new }
     ensures within { IfOk result (λ x. (1 ≤ x.1) × (x.1 ≤ room + 2)) }
-    ensures shorter { IfOk result (λ x. length x.2.now < length tokens.entry.now) }
+    ensures shorter { OnOk result (length reader.new < length reader.old) }
 {
-    let rest = fixed_at(tokens, Kind::Mark(Mark::Minus))?;
-    let (part, nest, rest) = factor_at(alloc, rest, breadth, room)?;
-    let tree = negation_of(alloc, part)?;
-    Ok((tree, nest + 1, rest))
+    reader.mark(Mark::Minus)?;
+    let (part, nest) = read_factor(reader, breadth, room)?;
+    let tree = negation_of(reader.alloc, part)?;
+    Ok((tree, nest + 1))
 }
 
 #[cycle(reading)]
-pub fn round_at<'t, 'a>(
-    alloc: Global,
-    tokens: &'t [Token<'a>],
+pub fn read_round<'a>(
+    reader: &mut Reader<'_, 'a>,
     breadth: Breadth,
     room: u32,
-) -> Result<(Expr, u32, &'t [Token<'a>]), ParseStop>
-    requires { room < 63 }
-    ensures gives { Gives (λ x. ((tree_of x.0, x.1), symbols x.2.now)) result (round_step (settled (expr_at breadth room)) 63 (symbols tokens.entry.now)) }
+) -> Result<(Expr<'a>, u32), ParseStop>
+    requires { room < MOST_ROOM }
+    ensures reads { ReadThrough as_nested (round_step (settled (expr_at breadth room))) reader.old result reader.new }
     ensures within { IfOk result (λ x. (1 ≤ x.1) × (x.1 ≤ room + 2)) }
-    ensures shorter { IfOk result (λ x. length x.2.now < length tokens.entry.now) }
+    ensures shorter { OnOk result (length reader.new < length reader.old) }
 {
-    let rest = fixed_at(tokens, OPEN)?;
-    let (tree, nest, rest) = expr_at(alloc, rest, breadth, room)?;
-    let rest = fixed_at(rest, CLOSE)?;
-    Ok((tree, nest + 1, rest))
+    reader.mark(Mark::OpenRound)?;
+    let (tree, nest) = read_expr(reader, breadth, room)?;
+    reader.mark(Mark::CloseRound)?;
+    Ok((tree, nest + 1))
 }
 
 #[cycle(reading)]
-pub fn call_at<'t, 'a>(
-    alloc: Global,
-    tokens: &'t [Token<'a>],
+pub fn read_call<'a>(
+    reader: &mut Reader<'_, 'a>,
     breadth: Breadth,
     room: u32,
-) -> Result<(Expr, u32, &'t [Token<'a>]), ParseStop>
-    requires { room < 63 }
-    ensures gives { Gives (λ x. ((tree_of x.0, x.1), symbols x.2.now)) result (call_step (settled (expr_at breadth room)) 63 (symbols tokens.entry.now)) }
+) -> Result<(Expr<'a>, u32), ParseStop>
+    requires { room < MOST_ROOM }
+    ensures reads { ReadThrough as_nested (call_step (settled (expr_at breadth room))) reader.old result reader.new }
     ensures within { IfOk result (λ x. (1 ≤ x.1) × (x.1 ≤ room + 2)) }
-    ensures shorter { IfOk result (λ x. length x.2.now < length tokens.entry.now) }
+    ensures shorter { OnOk result (length reader.new < length reader.old) }
 {
-    let ((k, place), rest) = sub_at(tokens)?;
-    let rest = fixed_at(rest, OPEN)?;
-    let (args, nest, rest) = args_at(alloc, rest, breadth, room)?;
-    let rest = fixed_at(rest, CLOSE)?;
-    Ok((call_of(k, place, args), nest + 1, rest))
+    let ((k, out), place) = reader.sub()?;
+    reader.mark(Mark::OpenRound)?;
+    let (args, nest) = read_args(reader, breadth, room)?;
+    reader.mark(Mark::CloseRound)?;
+    Ok((call_of(k, out, place, args), nest + 1))
 }
 
 // The arguments of a call, and the most of their nestings.
 #[cycle(reading)]
-fn args_at<'t, 'a>(
-    alloc: Global,
-    tokens: &'t [Token<'a>],
+fn read_args<'a>(
+    reader: &mut Reader<'_, 'a>,
     breadth: Breadth,
     room: u32,
-) -> Result<(Items<Expr>, u32, &'t [Token<'a>]), ParseStop>
-    requires { room < 63 }
-    ensures gives { Gives {V = ExprTrees × ℕ} (λ x. ((trees_of x.0, x.1), symbols x.2.now)) result (on_ok (separated_at Comma (settled (expr_at breadth room)) 63 (symbols tokens.entry.now)) (λ p. Ok ((trees_in p.0, most p.0), p.1))) }
+) -> Result<(Items<Expr<'a>>, u32), ParseStop>
+    requires { room < MOST_ROOM }
+    ensures reads { Gives {V = ExprTrees × ℕ} (λ x. ((trees_of x.0, x.1), reader.new)) result (on_ok (separated_at Comma (settled (expr_at breadth room)) 63 reader.old) (λ p. Ok ((trees_in p.0, most p.0), p.1))) }
     ensures within { IfOk result (λ x. x.1 ≤ room + 1) }
-    ensures shorter { IfOk result (λ x. length x.2.now < length tokens.entry.now) }
+    ensures shorter { OnOk result (length reader.new < length reader.old) }
 {
-    let (first, mut nest, mut rest) = expr_at(alloc, tokens, breadth, room)?;
-    let mut found = Items::new(alloc);
+    let (first, mut nest) = read_expr(reader, breadth, room)?;
+    let mut found = Items::new(reader.alloc);
     found.push(first)?;
-    'parts: while next_is(rest, COMMA) {
-        let (part, deep, after) = expr_behind(alloc, rest, COMMA, breadth, room)?;
+    'parts: while reader.next_is_mark(Mark::Comma) {
+        let (part, deep) = read_behind(reader, COMMA, breadth, room)?;
         found.push(part)?;
         nest = nest.max(deep);
-        rest = after;
     }
-    Ok((found, nest, rest))
+    Ok((found, nest))
 }
 
 // An expression behind a token of this kind.
 #[cycle(reading)]
-fn expr_behind<'t, 'a>(
-    alloc: Global,
-    tokens: &'t [Token<'a>],
+fn read_behind<'a>(
+    reader: &mut Reader<'_, 'a>,
     kind: Kind,
     breadth: Breadth,
     room: u32,
-) -> Result<(Expr, u32, &'t [Token<'a>]), ParseStop>
-    requires { room < 63 }
-    ensures gives { Gives (λ x. ((tree_of x.0, x.1), symbols x.2.now)) result (on_ok (fixed_at kind 63 (symbols tokens.entry.now)) (λ p. expr_at breadth room p.1)) }
+) -> Result<(Expr<'a>, u32), ParseStop>
+    requires { room < MOST_ROOM }
+    ensures reads { ReadThrough as_nested (behind_step kind (settled (expr_at breadth room))) reader.old result reader.new }
     ensures within { IfOk result (λ x. (1 ≤ x.1) × (x.1 ≤ room + 1)) }
-    ensures shorter { IfOk result (λ x. length x.2.now < length tokens.entry.now) }
+    ensures shorter { OnOk result (length reader.new < length reader.old) }
 {
-    let rest = fixed_at(tokens, kind)?;
-    expr_at(alloc, rest, breadth, room)
+    reader.fixed(kind)?;
+    read_expr(reader, breadth, room)
 }
 
 #[cycle(reading)]
-pub fn loop_at<'t, 'a>(
-    alloc: Global,
-    tokens: &'t [Token<'a>],
+pub fn read_loop<'a>(
+    reader: &mut Reader<'_, 'a>,
     breadth: Breadth,
     room: u32,
-) -> Result<(Expr, u32, &'t [Token<'a>]), ParseStop>
-    requires { room < 63 }
-    ensures gives { Gives (λ x. ((tree_of x.0, x.1), symbols x.2.now)) result (loop_step (settled (expr_at breadth room)) 63 (symbols tokens.entry.now)) }
+) -> Result<(Expr<'a>, u32), ParseStop>
+    requires { room < MOST_ROOM }
+    ensures reads { ReadThrough as_nested (loop_step (settled (expr_at breadth room))) reader.old result reader.new }
     ensures within { IfOk result (λ x. (1 ≤ x.1) × (x.1 ≤ room + 2)) }
-    ensures shorter { IfOk result (λ x. length x.2.now < length tokens.entry.now) }
+    ensures shorter { OnOk result (length reader.new < length reader.old) }
 {
-    let (kind, rest) = loop_kind_at(tokens)?;
-    let rest = fixed_at(rest, OPEN)?;
-    let (name, rest) = name_at(alloc, rest)?;
-    let (first, n, rest) = expr_behind(alloc, rest, COMMA, breadth, room)?;
-    let (second, m, rest) = expr_behind(alloc, rest, COMMA, breadth, room)?;
-    let (each, k, rest) = expr_behind(alloc, rest, COMMA, breadth, room)?;
-    let rest = fixed_at(rest, CLOSE)?;
-    let tree = loop_of(alloc, kind, name, first, second, each)?;
-    Ok((tree, n.max(m.max(k)) + 1, rest))
+    let kind = read_loop_kind(reader)?;
+    reader.mark(Mark::OpenRound)?;
+    let name = reader.name()?;
+    let (first, n) = read_behind(reader, COMMA, breadth, room)?;
+    let (second, m) = read_behind(reader, COMMA, breadth, room)?;
+    let (each, k) = read_behind(reader, COMMA, breadth, room)?;
+    reader.mark(Mark::CloseRound)?;
+    let tree = loop_of(reader.alloc, kind, name, first, second, each)?;
+    Ok((tree, n.max(m.max(k)) + 1))
 }
 
 #[cycle(reading)]
-pub fn choice_at<'t, 'a>(
-    alloc: Global,
-    tokens: &'t [Token<'a>],
+pub fn read_choice<'a>(
+    reader: &mut Reader<'_, 'a>,
     breadth: Breadth,
     room: u32,
-) -> Result<(Expr, u32, &'t [Token<'a>]), ParseStop>
-    requires { room < 63 }
-    ensures gives { Gives (λ x. ((tree_of x.0, x.1), symbols x.2.now)) result (choice_step (settled (chain_at breadth room)) (settled (expr_at breadth room)) 63 (symbols tokens.entry.now)) }
+) -> Result<(Expr<'a>, u32), ParseStop>
+    requires { room < MOST_ROOM }
+    ensures reads { ReadThrough as_nested (choice_step (settled (chain_at breadth room)) (settled (expr_at breadth room))) reader.old result reader.new }
     ensures within { IfOk result (λ x. (1 ≤ x.1) × (x.1 ≤ room + 2)) }
-    ensures shorter { IfOk result (λ x. length x.2.now < length tokens.entry.now) }
+    ensures shorter { OnOk result (length reader.new < length reader.old) }
 {
-    let rest = fixed_at(tokens, Kind::Word(Word::If))?;
-    let (left, a, rest) = chain_at(alloc, rest, breadth, room)?;
-    let (cmp, rest) = cmp_at(rest)?;
-    let (right, b, rest) = chain_at(alloc, rest, breadth, room)?;
-    let (yes, c, rest) = expr_behind(alloc, rest, Kind::Word(Word::Then), breadth, room)?;
-    let (no, d, rest) = expr_behind(alloc, rest, Kind::Word(Word::Else), breadth, room)?;
-    let tree = choice_of(alloc, cmp, left, right, yes, no)?;
-    Ok((tree, a.max(b).max(c.max(d)) + 1, rest))
+    reader.word(Word::If)?;
+    let (left, a) = read_group(reader, Group::Chain, breadth, room)?;
+    let cmp = read_cmp(reader)?;
+    let (right, b) = read_group(reader, Group::Chain, breadth, room)?;
+    let (yes, c) = read_behind(reader, Kind::Word(Word::Then), breadth, room)?;
+    let (no, d) = read_behind(reader, Kind::Word(Word::Else), breadth, room)?;
+    let tree = choice_of(reader.alloc, cmp, left, right, yes, no)?;
+    Ok((tree, a.max(b).max(c.max(d)) + 1))
 }
 
-pub fn variable_at<'t, 'a>(
-    alloc: Global,
-    tokens: &'t [Token<'a>],
-) -> Result<(Expr, u32, &'t [Token<'a>]), ParseStop>
-    ensures gives { Gives (λ x. ((tree_of x.0, x.1), symbols x.2.now)) result (variable_step 63 (symbols tokens.entry.now)) }
+pub fn read_variable<'a>(reader: &mut Reader<'_, 'a>) -> Result<(Expr<'a>, u32), ParseStop>
+    ensures reads { ReadThrough as_nested variable_step reader.old result reader.new }
     ensures within { IfOk result (λ x. x.1 ≡ 1) }
-    ensures shorter { IfOk result (λ x. length x.2.now < length tokens.entry.now) }
+    ensures shorter { OnOk result (length reader.new < length reader.old) }
 {
-    let (path, rest) = path_at(alloc, tokens)?;
-    Ok((variable_of(path), 1, rest))
+    let path = Path::read(reader)?;
+    Ok((variable_of(path), 1))
 }
 
-pub fn literal_at<'t, 'a>(
-    tokens: &'t [Token<'a>],
-) -> Result<(Expr, u32, &'t [Token<'a>]), ParseStop>
-    ensures gives { Gives (λ x. ((tree_of x.0, x.1), symbols x.2.now)) result (literal_step 63 (symbols tokens.entry.now)) }
+pub fn read_literal<'a>(reader: &mut Reader<'_, 'a>) -> Result<(Expr<'a>, u32), ParseStop>
+    ensures reads { ReadThrough as_nested literal_step reader.old result reader.new }
     ensures within { IfOk result (λ x. x.1 ≡ 1) }
-    ensures shorter { IfOk result (λ x. length x.2.now < length tokens.entry.now) }
+    ensures shorter { OnOk result (length reader.new < length reader.old) }
 {
-    let (n, rest) = number_at(tokens)?;
-    Ok((number_of(n), 1, rest))
+    let n = reader.number()?;
+    Ok((number_of(n), 1))
 }

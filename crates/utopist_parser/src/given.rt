@@ -1,167 +1,84 @@
-//! Reading what is given, and the numbers of it.
-ghost use Rattle.std.specs.Prelude.{◌≡◌, ◌<◌, ◌≤◌, pos, ◌≤ℤ◌, ◌<ℤ◌, unsigned_abs, length, IfOk};
+//! What is given, and the numbers of it.
+ghost use Rattle.std.specs.Prelude.{◌≡◌, ◌<◌, ◌≤◌, pos, ◌≤ℤ◌, ◌<ℤ◌, unsigned_abs, length, IfOk, OnOk};
 ghost use Rattle.priz_frac.specs.Lowest.{low};
 ghost use Rattle.priz_frac.specs.Sign.{signed_number, signed_ratio};
-ghost use Rattle.utopist_lexer.specs.declared.mark.Mark.TheVariants.{Comma};
-ghost use Rattle.utopist_parser.specs.Answers.{Gives};
-ghost use Rattle.utopist_parser.specs.Lists.{next_at, separated_at};
-ghost use Rattle.utopist_parser.specs.ReadingFile.{negative_at, some_below_at, below_at, some_value_at, given_value_at, given_at, some_givens_at, givens_at};
-ghost use Rattle.utopist_parser.specs.Symbols.{symbols};
+ghost use Rattle.utopist_parser.specs.steps.Answers.{ReadBy};
+ghost use Rattle.utopist_parser.specs.steps.ReadingFile.{negative_at, below_at, given_value_at, given_at, givens_at};
 
 use crate::parse_stop::ParseStop;
-use crate::paths::path_at;
-use crate::step::{divisor_at, fixed_at, next_is, number_at};
+use crate::production::{Production, separated};
+use crate::reader::Reader;
 use priz_frac::Frac;
 use sqlite_items::Items;
-use std::alloc::Global;
-use utopist_lexer::{Kind, Mark, Token, Word};
-use utopist_syntax::GivenPath;
+use utopist_lexer::{Mark, Word};
+use utopist_syntax::{GivenPath, Path};
 
-const GIVEN: Kind = Kind::Word(Word::Given);
-
-const COMMA: Kind = Kind::Mark(Mark::Comma);
-
-const EQUAL: Kind = Kind::Mark(Mark::Equal);
-
-const MINUS: Kind = Kind::Mark(Mark::Minus);
-
-const SLASH: Kind = Kind::Mark(Mark::Slash);
-
-#[tactic(auto, unfolding(crate::specs::ReadingFile::givens_at))]
-pub fn givens_at<'t, 'a>(
-    alloc: Global,
-    tokens: &'t [Token<'a>],
-) -> Result<(Items<GivenPath>, &'t [Token<'a>]), ParseStop>
-    ensures gives { Gives (λ x. (x.0, symbols x.1.now)) result (givens_at 63 (symbols tokens.entry.now)) }
-    ensures shorter { IfOk result (λ x. length x.1.now ≤ length tokens.entry.now) }
+#[tactic(auto, unfolding(crate::specs::steps::ReadingFile::givens_at, crate::specs::steps::ReadingFile::some_givens_at))]
+pub fn read_givens<'a>(reader: &mut Reader<'_, 'a>) -> Result<Items<GivenPath<'a>>, ParseStop>
+    ensures reads { ReadBy givens_at reader.old result reader.new }
+    ensures shorter { OnOk result (length reader.new ≤ length reader.old) }
 {
-    if next_is(tokens, GIVEN) {
-        some_givens_at(alloc, tokens)
+    if !reader.next_is_word(Word::Given) {
+        return Ok(Items::new(reader.alloc));
+    }
+    reader.word(Word::Given)?;
+    let givens = separated(reader, Mark::Comma)?;
+    reader.mark(Mark::Semicolon)?;
+    Ok(givens)
+}
+
+impl<'a> Production<'a> for GivenPath<'a> {
+    ghost step = { given_at };
+
+    #[tactic(auto, unfolding(crate::specs::steps::ReadingFile::given_at))]
+    fn read(reader: &mut Reader<'_, 'a>) -> Result<GivenPath<'a>, ParseStop> {
+        let path = Path::read(reader)?;
+        let value = read_value(reader)?;
+        Ok(GivenPath { path, value })
+    }
+}
+
+#[tactic(auto, unfolding(crate::specs::steps::ReadingFile::given_value_at, crate::specs::steps::ReadingFile::some_value_at))]
+fn read_value(reader: &mut Reader) -> Result<Option<Frac>, ParseStop>
+    ensures reads { ReadBy given_value_at reader.old result reader.new }
+    ensures shorter { OnOk result (length reader.new ≤ length reader.old) }
+{
+    if !reader.next_is_mark(Mark::Equal) {
+        return Ok(None);
+    }
+    reader.mark(Mark::Equal)?;
+    let negative = read_sign(reader)?;
+    let n = reader.number()?;
+    let d = read_below(reader)?;
+    Ok(Some(fraction_of(negative, n, d)))
+}
+
+// Whether a minus stands there.
+#[tactic(auto, unfolding(crate::specs::steps::ReadingFile::negative_at, crate::specs::steps::ReadingFile::minus_at))]
+fn read_sign(reader: &mut Reader) -> Result<bool, ParseStop>
+    ensures reads { ReadBy negative_at reader.old result reader.new }
+    ensures shorter { OnOk result (length reader.new ≤ length reader.old) }
+{
+    if reader.next_is_mark(Mark::Minus) {
+        reader.mark(Mark::Minus)?;
+        Ok(true)
     } else {
-        Ok((Items::new(alloc), tokens))
+        Ok(false)
     }
 }
 
-#[tactic(auto, unfolding(crate::specs::ReadingFile::some_givens_at))]
-fn some_givens_at<'t, 'a>(
-    alloc: Global,
-    tokens: &'t [Token<'a>],
-) -> Result<(Items<GivenPath>, &'t [Token<'a>]), ParseStop>
-    ensures gives { Gives (λ x. (x.0, symbols x.1.now)) result (some_givens_at 63 (symbols tokens.entry.now)) }
-    ensures shorter { IfOk result (λ x. length x.1.now < length tokens.entry.now) }
+// The denominator, which is 1 where none stands there.
+#[tactic(auto, unfolding(crate::specs::steps::ReadingFile::below_at, crate::specs::steps::ReadingFile::some_below_at))]
+fn read_below(reader: &mut Reader) -> Result<i64, ParseStop>
+    ensures reads { ReadBy below_at reader.old result reader.new }
+    ensures positive { IfOk result (λ d. pos 0 <ℤ d) }
+    ensures shorter { OnOk result (length reader.new ≤ length reader.old) }
 {
-    let rest = fixed_at(tokens, GIVEN)?;
-    let (givens, rest) = separated_givens_at(alloc, rest)?;
-    let rest = fixed_at(rest, Kind::Mark(Mark::Semicolon))?;
-    Ok((givens, rest))
-}
-
-fn separated_givens_at<'t, 'a>(
-    alloc: Global,
-    tokens: &'t [Token<'a>],
-) -> Result<(Items<GivenPath>, &'t [Token<'a>]), ParseStop>
-    ensures gives { Gives (λ x. (x.0, symbols x.1.now)) result (separated_at Comma given_at 63 (symbols tokens.entry.now)) }
-    ensures shorter { IfOk result (λ x. length x.1.now < length tokens.entry.now) }
-{
-    let (first, mut rest) = given_at(alloc, tokens)?;
-    let mut found = Items::new(alloc);
-    found.push(first)?;
-    'parts: while next_is(rest, COMMA) {
-        let (part, after) = next_given_at(alloc, rest)?;
-        found.push(part)?;
-        rest = after;
+    if !reader.next_is_mark(Mark::Slash) {
+        return Ok(1);
     }
-    Ok((found, rest))
-}
-
-fn next_given_at<'t, 'a>(
-    alloc: Global,
-    tokens: &'t [Token<'a>],
-) -> Result<(GivenPath, &'t [Token<'a>]), ParseStop>
-    ensures gives { Gives (λ x. (x.0, symbols x.1.now)) result (next_at Comma given_at 63 (symbols tokens.entry.now)) }
-    ensures shorter { IfOk result (λ x. length x.1.now < length tokens.entry.now) }
-{
-    let rest = fixed_at(tokens, COMMA)?;
-    given_at(alloc, rest)
-}
-
-#[tactic(auto, unfolding(crate::specs::ReadingFile::given_at))]
-fn given_at<'t, 'a>(
-    alloc: Global,
-    tokens: &'t [Token<'a>],
-) -> Result<(GivenPath, &'t [Token<'a>]), ParseStop>
-    ensures gives { Gives (λ x. (x.0, symbols x.1.now)) result (given_at 63 (symbols tokens.entry.now)) }
-    ensures shorter { IfOk result (λ x. length x.1.now < length tokens.entry.now) }
-{
-    let (path, rest) = path_at(alloc, tokens)?;
-    match given_value_at(rest) {
-        Ok((value, rest)) => Ok((GivenPath { path, value }, rest)),
-        Err(stop) => Err(stop),
-    }
-}
-
-#[tactic(auto, unfolding(crate::specs::ReadingFile::given_value_at))]
-fn given_value_at<'t, 'a>(
-    tokens: &'t [Token<'a>],
-) -> Result<(Option<Frac>, &'t [Token<'a>]), ParseStop>
-    ensures gives { Gives (λ x. (x.0, symbols x.1.now)) result (given_value_at 63 (symbols tokens.entry.now)) }
-    ensures shorter { IfOk result (λ x. length x.1.now ≤ length tokens.entry.now) }
-{
-    if next_is(tokens, EQUAL) {
-        some_value_at(tokens)
-    } else {
-        Ok((None, tokens))
-    }
-}
-
-#[tactic(auto, unfolding(crate::specs::ReadingFile::some_value_at))]
-fn some_value_at<'t, 'a>(
-    tokens: &'t [Token<'a>],
-) -> Result<(Option<Frac>, &'t [Token<'a>]), ParseStop>
-    ensures gives { Gives (λ x. (x.0, symbols x.1.now)) result (some_value_at 63 (symbols tokens.entry.now)) }
-    ensures shorter { IfOk result (λ x. length x.1.now < length tokens.entry.now) }
-{
-    let rest = fixed_at(tokens, EQUAL)?;
-    let (negative, rest) = negative_at(rest)?;
-    let (n, rest) = number_at(rest)?;
-    let (d, rest) = below_at(rest)?;
-    Ok((Some(fraction_of(negative, n, d)), rest))
-}
-
-#[tactic(auto, unfolding(crate::specs::ReadingFile::negative_at, crate::specs::ReadingFile::minus_at))]
-fn negative_at<'t, 'a>(tokens: &'t [Token<'a>]) -> Result<(bool, &'t [Token<'a>]), ParseStop>
-    ensures gives { Gives (λ x. (x.0, symbols x.1.now)) result (negative_at 63 (symbols tokens.entry.now)) }
-    ensures shorter { IfOk result (λ x. length x.1.now ≤ length tokens.entry.now) }
-{
-    if next_is(tokens, MINUS) {
-        let rest = fixed_at(tokens, MINUS)?;
-        Ok((true, rest))
-    } else {
-        Ok((false, tokens))
-    }
-}
-
-#[tactic(auto, unfolding(crate::specs::ReadingFile::below_at))]
-fn below_at<'t, 'a>(tokens: &'t [Token<'a>]) -> Result<(i64, &'t [Token<'a>]), ParseStop>
-    ensures gives { Gives (λ x. (x.0, symbols x.1.now)) result (below_at 63 (symbols tokens.entry.now)) }
-    ensures positive { IfOk result (λ x. pos 0 <ℤ x.0) }
-    ensures shorter { IfOk result (λ x. length x.1.now ≤ length tokens.entry.now) }
-{
-    if next_is(tokens, SLASH) {
-        some_below_at(tokens)
-    } else {
-        Ok((1, tokens))
-    }
-}
-
-#[tactic(auto, unfolding(crate::specs::ReadingFile::some_below_at))]
-fn some_below_at<'t, 'a>(tokens: &'t [Token<'a>]) -> Result<(i64, &'t [Token<'a>]), ParseStop>
-    ensures gives { Gives (λ x. (x.0, symbols x.1.now)) result (some_below_at 63 (symbols tokens.entry.now)) }
-    ensures positive { IfOk result (λ x. pos 0 <ℤ x.0) }
-    ensures shorter { IfOk result (λ x. length x.1.now < length tokens.entry.now) }
-{
-    let rest = fixed_at(tokens, SLASH)?;
-    divisor_at(rest)
+    reader.mark(Mark::Slash)?;
+    reader.divisor()
 }
 
 // n / d, or -(n / d), which is never past the bounds of a fraction.

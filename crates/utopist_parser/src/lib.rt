@@ -5,10 +5,12 @@ mod binds;
 mod breadth;
 mod compute;
 mod concept;
+mod entry;
 mod expr;
 mod file;
 mod forms;
 mod given;
+mod group;
 mod item;
 mod laws;
 mod nodes;
@@ -17,8 +19,9 @@ mod parse_stop;
 mod parser;
 mod parts;
 mod paths;
+mod production;
+mod reader;
 mod scan;
-mod step;
 #[cfg(test)]
 mod tests;
 

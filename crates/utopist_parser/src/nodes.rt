@@ -10,37 +10,47 @@ use std::alloc::{AllocError, Global};
 use utopist_syntax::{Expr, Name, Path};
 
 #[tactic(auto, using(crate::proofs::Trees::num_tree))]
-pub fn number_of(n: i64) -> Expr
+pub fn number_of<'a>(n: i64) -> Expr<'a>
     ensures { tree_of result ≡ num n }
 {
     Expr::Num(n)
 }
 
 #[tactic(auto, using(crate::proofs::Trees::path_tree))]
-pub fn variable_of(variable: Path) -> Expr
-    ensures { tree_of result ≡ path variable.parts }
+pub fn variable_of<'a>(variable: Path<'a>) -> Expr<'a>
+    ensures { tree_of result ≡ path variable.entry.parts }
 {
     Expr::Path(variable)
 }
 
 #[tactic(auto, using(crate::proofs::Trees::call_tree))]
-pub fn call_of(k: i64, place: Place, args: Items<Expr>) -> Expr
-    ensures { tree_of result ≡ call k place (trees_of args) }
+pub fn call_of<'a>(k: i64, out: i64, place: Place, args: Items<Expr<'a>>) -> Expr<'a>
+    ensures { tree_of result ≡ call k out place (trees_of args.entry) }
 {
-    Expr::Call { k, place, args }
+    Expr::Call {
+        k,
+        out,
+        place,
+        args,
+    }
 }
 
 #[tactic(auto, using(crate::proofs::Trees::neg_tree))]
-pub fn negation_of(alloc: Global, part: Expr) -> Result<Expr, AllocError>
-    ensures { IfOk result (λ e. tree_of e ≡ neg (tree_of part)) }
+pub fn negation_of<'a>(alloc: Global, part: Expr<'a>) -> Result<Expr<'a>, AllocError>
+    ensures { IfOk result (λ e. tree_of e ≡ neg (tree_of part.entry)) }
 {
     let part = Boxed::new(alloc, part)?;
     Ok(Expr::Neg(part))
 }
 
 #[tactic(auto, using(crate::proofs::Trees::op_tree))]
-pub fn operation_of(alloc: Global, op: Op, left: Expr, right: Expr) -> Result<Expr, AllocError>
-    ensures { IfOk result (λ e. tree_of e ≡ op_tree op (tree_of left) (tree_of right)) }
+pub fn operation_of<'a>(
+    alloc: Global,
+    op: Op,
+    left: Expr<'a>,
+    right: Expr<'a>,
+) -> Result<Expr<'a>, AllocError>
+    ensures { IfOk result (λ e. tree_of e ≡ op_tree op (tree_of left.entry) (tree_of right.entry)) }
 {
     let left = Boxed::new(alloc, left)?;
     let right = Boxed::new(alloc, right)?;
@@ -48,15 +58,15 @@ pub fn operation_of(alloc: Global, op: Op, left: Expr, right: Expr) -> Result<Ex
 }
 
 #[tactic(auto, using(crate::proofs::Trees::loop_tree))]
-pub fn loop_of(
+pub fn loop_of<'a>(
     alloc: Global,
     kind: LoopKind,
-    name: Name,
-    first: Expr,
-    second: Expr,
-    each: Expr,
-) -> Result<Expr, AllocError>
-    ensures { IfOk result (λ e. tree_of e ≡ loop_tree kind name (tree_of first) (tree_of second) (tree_of each)) }
+    name: Name<'a>,
+    first: Expr<'a>,
+    second: Expr<'a>,
+    each: Expr<'a>,
+) -> Result<Expr<'a>, AllocError>
+    ensures { IfOk result (λ e. tree_of e ≡ loop_tree kind name.entry (tree_of first.entry) (tree_of second.entry) (tree_of each.entry)) }
 {
     let first = Boxed::new(alloc, first)?;
     let second = Boxed::new(alloc, second)?;
@@ -71,15 +81,15 @@ pub fn loop_of(
 }
 
 #[tactic(auto, using(crate::proofs::Trees::choice_tree))]
-pub fn choice_of(
+pub fn choice_of<'a>(
     alloc: Global,
     cmp: Cmp,
-    left: Expr,
-    right: Expr,
-    yes: Expr,
-    no: Expr,
-) -> Result<Expr, AllocError>
-    ensures { IfOk result (λ e. tree_of e ≡ choice cmp (tree_of left) (tree_of right) (tree_of yes) (tree_of no)) }
+    left: Expr<'a>,
+    right: Expr<'a>,
+    yes: Expr<'a>,
+    no: Expr<'a>,
+) -> Result<Expr<'a>, AllocError>
+    ensures { IfOk result (λ e. tree_of e ≡ choice cmp (tree_of left.entry) (tree_of right.entry) (tree_of yes.entry) (tree_of no.entry)) }
 {
     let left = Boxed::new(alloc, left)?;
     let right = Boxed::new(alloc, right)?;

@@ -1,85 +1,99 @@
 //! Operators, comparisons and kinds of loops.
-ghost use Rattle.std.specs.Prelude.{◌≡◌, ◌<◌, length, IfOk};
-ghost use Rattle.utopist_parser.specs.Answers.{Gives};
-ghost use Rattle.utopist_parser.specs.ReadingExpr.{sign_of, scale_of, loop_of, cmp_of};
-ghost use Rattle.utopist_parser.specs.Steps.{next, pick_at};
-ghost use Rattle.utopist_parser.specs.Symbols.{symbols};
+ghost use Rattle.std.specs.Prelude.{◌≡◌, ◌<◌, length, OnOk};
+ghost use Rattle.utopist_parser.specs.steps.Answers.{ReadBy};
+ghost use Rattle.utopist_parser.specs.steps.ReadingExpr.{sign_of, scale_of, operator_of, loop_of, cmp_of};
+ghost use Rattle.utopist_parser.specs.steps.Steps.{next, pick_at};
 
+use crate::group::Group;
 use crate::parse_stop::ParseStop;
-use crate::step::next_is;
+use crate::reader::Reader;
 use body_lang::{Cmp, LoopKind, Op};
-use utopist_lexer::{Kind, Mark, Token, Word};
+use utopist_lexer::{Mark, Word};
 
-pub fn sign_of(tokens: &[Token]) -> Option<Op>
-    ensures { result ≡ sign_of (next (symbols tokens.now)) }
+/// The operator of a group that stands there.
+pub fn operator_of(reader: &Reader, group: Group) -> Option<Op>
+    ensures { result ≡ operator_of group (next reader.now) }
 {
-    if next_is(tokens, Kind::Mark(Mark::Plus)) {
+    match group {
+        Group::Chain => sign_of(reader),
+        Group::Term => scale_of(reader),
+    }
+}
+
+fn sign_of(reader: &Reader) -> Option<Op>
+    ensures { result ≡ sign_of (next reader.now) }
+{
+    if reader.next_is_mark(Mark::Plus) {
         Some(Op::Add)
-    } else if next_is(tokens, Kind::Mark(Mark::Minus)) {
+    } else if reader.next_is_mark(Mark::Minus) {
         Some(Op::Sub)
     } else {
         None
     }
 }
 
-pub fn scale_of(tokens: &[Token]) -> Option<Op>
-    ensures { result ≡ scale_of (next (symbols tokens.now)) }
+fn scale_of(reader: &Reader) -> Option<Op>
+    ensures { result ≡ scale_of (next reader.now) }
 {
-    if next_is(tokens, Kind::Mark(Mark::Star)) {
+    if reader.next_is_mark(Mark::Star) {
         Some(Op::Mul)
-    } else if next_is(tokens, Kind::Mark(Mark::Slash)) {
+    } else if reader.next_is_mark(Mark::Slash) {
         Some(Op::Div)
     } else {
         None
     }
 }
 
-fn loop_of(tokens: &[Token]) -> Option<LoopKind>
-    ensures { result ≡ loop_of (next (symbols tokens.now)) }
+fn loop_of(reader: &Reader) -> Option<LoopKind>
+    ensures { result ≡ loop_of (next reader.now) }
 {
-    if next_is(tokens, Kind::Word(Word::Sum)) {
+    if reader.next_is_word(Word::Sum) {
         Some(LoopKind::Sum)
-    } else if next_is(tokens, Kind::Word(Word::Prod)) {
+    } else if reader.next_is_word(Word::Prod) {
         Some(LoopKind::Prod)
-    } else if next_is(tokens, Kind::Word(Word::Iter)) {
+    } else if reader.next_is_word(Word::Iter) {
         Some(LoopKind::Iter)
     } else {
         None
     }
 }
 
-fn cmp_of(tokens: &[Token]) -> Option<Cmp>
-    ensures { result ≡ cmp_of (next (symbols tokens.now)) }
+fn cmp_of(reader: &Reader) -> Option<Cmp>
+    ensures { result ≡ cmp_of (next reader.now) }
 {
-    if next_is(tokens, Kind::Mark(Mark::Less)) {
+    if reader.next_is_mark(Mark::Less) {
         Some(Cmp::Less)
-    } else if next_is(tokens, Kind::Mark(Mark::AtMost)) {
+    } else if reader.next_is_mark(Mark::AtMost) {
         Some(Cmp::AtMost)
-    } else if next_is(tokens, Kind::Mark(Mark::Equal)) {
+    } else if reader.next_is_mark(Mark::Equal) {
         Some(Cmp::Same)
     } else {
         None
     }
 }
 
-pub fn loop_kind_at<'t, 'a>(
-    tokens: &'t [Token<'a>],
-) -> Result<(LoopKind, &'t [Token<'a>]), ParseStop>
-    ensures gives { Gives (λ x. (x.0, symbols x.1.now)) result (pick_at loop_of 63 (symbols tokens.entry.now)) }
-    ensures shorter { IfOk result (λ x. length x.1.now < length tokens.entry.now) }
+pub fn read_loop_kind(reader: &mut Reader) -> Result<LoopKind, ParseStop>
+    ensures reads { ReadBy (pick_at loop_of) reader.old result reader.new }
+    ensures shorter { OnOk result (length reader.new < length reader.old) }
 {
-    match loop_of(tokens) {
-        Some(kind) => Ok((kind, &tokens[1..])),
-        None => Err(ParseStop::Expected(tokens.len())),
+    match loop_of(reader) {
+        Some(kind) => {
+            reader.advance();
+            Ok(kind)
+        }
+        None => Err(reader.expected()),
     }
 }
 
-pub fn cmp_at<'t, 'a>(tokens: &'t [Token<'a>]) -> Result<(Cmp, &'t [Token<'a>]), ParseStop>
-    ensures gives { Gives (λ x. (x.0, symbols x.1.now)) result (pick_at cmp_of 63 (symbols tokens.entry.now)) }
-    ensures shorter { IfOk result (λ x. length x.1.now < length tokens.entry.now) }
+pub fn read_cmp(reader: &mut Reader) -> Result<Cmp, ParseStop>
+    ensures reads { ReadBy (pick_at cmp_of) reader.old result reader.new }
+    ensures shorter { OnOk result (length reader.new < length reader.old) }
 {
-    match cmp_of(tokens) {
-        Some(cmp) => Ok((cmp, &tokens[1..])),
-        None => Err(ParseStop::Expected(tokens.len())),
+    match cmp_of(reader) {
+        Some(cmp) => {
+            reader.advance();
+            Ok(cmp)
+        }
+        None => Err(reader.expected()),
     }
 }

@@ -1,13 +1,15 @@
 //! From a text to its tree.
 ghost use Rattle.std.specs.Prelude.{◌≡◌, ◌≤◌, length, IfOk, IsSome};
 ghost use Rattle.priz_base.specs.Reading.{max_input};
-ghost use Rattle.utopist_syntax.specs.Asks.{AllAsk};
+ghost use Rattle.utopist_syntax.specs.Shape.{HasShape};
 ghost use Rattle.utopist_syntax.specs.FileTree.{file_tree};
-ghost use Rattle.utopist_parser.specs.Answers.{PlaceOf};
+ghost use Rattle.utopist_parser.specs.steps.Answers.{PlaceOf};
 ghost use Rattle.utopist_parser.specs.Forms.{ParseOf};
+ghost use Rattle.utopist_parser.specs.Slices.{AllSlices};
 
-use crate::file::file_at;
+use crate::file::read_file;
 use crate::parse_stop::ParseStop;
+use crate::reader::Reader;
 use crate::scan::scan;
 use priz_base::{NoMem, Place};
 use std::alloc::Global;
@@ -26,18 +28,20 @@ pub enum ParseFault {
     NoMem,
 }
 
-/// The tree of a file, in time linear in the text. What recurses does so at most 64 deep.
-pub fn parse(alloc: Global, text: &str) -> Result<File, ParseFault>
+/// The tree of a file, whose names are slices of the text, in time linear in the text. What recurses does so at most 64 deep.
+pub fn parse<'a>(alloc: Global, text: &'a str) -> Result<File<'a>, ParseFault>
     requires { length text.now ≤ max_input }
     ensures tree { ParseOf text.entry.now result }
-    ensures wants { IfOk result (λ f. AllAsk (file_tree f)) }
+    ensures shape { IfOk result (λ f. HasShape (file_tree f)) }
+    ensures slices { IfOk result (λ f. AllSlices text.entry.now (file_tree f)) }
 {
     let (tokens, fault) = match scan(alloc, text) {
         Ok(found) => found,
         Err(NoMem) => return Err(ParseFault::NoMem),
     };
-    match file_at(alloc, &tokens) {
-        Ok((file, _)) => Ok(file),
+    let mut reader = Reader::new(alloc, &tokens);
+    match read_file(&mut reader) {
+        Ok(file) => Ok(file),
         Err(ParseStop::Expected(left)) => match place_at(&tokens, left, fault) {
             Ok(place) => Err(ParseFault::Expected(place)),
             Err(fault) => Err(ParseFault::Lex(fault)),

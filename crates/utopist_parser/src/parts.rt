@@ -1,113 +1,66 @@
-//! Reading what a relation takes.
-ghost use Rattle.std.specs.Prelude.{◌≡◌, ◌<◌, ◌≤◌, length, IfOk};
-ghost use Rattle.utopist_lexer.specs.declared.mark.Mark.TheVariants.{Comma};
-ghost use Rattle.utopist_parser.specs.Answers.{Gives};
-ghost use Rattle.utopist_parser.specs.Lists.{next_at};
-ghost use Rattle.utopist_parser.specs.ReadingFile.{input_at, subtask_at, part_at, some_parts_at, begins_part, parts_at};
-ghost use Rattle.utopist_parser.specs.Steps.{next, meets};
-ghost use Rattle.utopist_parser.specs.Symbols.{symbols};
+//! What a relation takes.
+ghost use Rattle.std.specs.Prelude.{◌≡◌, ◌<◌, ◌≤◌, length, OnOk};
+ghost use Rattle.utopist_parser.specs.steps.Answers.{ReadBy};
+ghost use Rattle.utopist_parser.specs.steps.ReadingFile.{input_at, subtask_at, part_at, some_parts_at, begins_part, parts_at};
+ghost use Rattle.utopist_parser.specs.steps.Steps.{next, meets};
 
 use crate::parse_stop::ParseStop;
-use crate::paths::{path_at, paths_at};
-use crate::step::{fixed_at, next_is};
+use crate::paths::read_paths;
+use crate::production::{Production, separated};
+use crate::reader::Reader;
 use sqlite_items::Items;
-use std::alloc::Global;
-use utopist_lexer::{Kind, Mark, Token};
-use utopist_syntax::Part;
+use utopist_lexer::{Kind, Mark};
+use utopist_syntax::{Part, Path};
 
-const OPEN: Kind = Kind::Mark(Mark::OpenSquare);
-
-const COMMA: Kind = Kind::Mark(Mark::Comma);
-
-#[tactic(auto, unfolding(crate::specs::ReadingFile::parts_at))]
-pub fn parts_at<'t, 'a>(
-    alloc: Global,
-    tokens: &'t [Token<'a>],
-) -> Result<(Items<Part>, &'t [Token<'a>]), ParseStop>
-    ensures gives { Gives (λ x. (x.0, symbols x.1.now)) result (parts_at 63 (symbols tokens.entry.now)) }
-    ensures shorter { IfOk result (λ x. length x.1.now ≤ length tokens.entry.now) }
+#[tactic(auto, unfolding(crate::specs::steps::ReadingFile::parts_at, crate::specs::steps::ReadingFile::some_parts_at))]
+pub fn read_parts<'a>(reader: &mut Reader<'_, 'a>) -> Result<Items<Part<'a>>, ParseStop>
+    ensures reads { ReadBy parts_at reader.old result reader.new }
+    ensures shorter { OnOk result (length reader.new ≤ length reader.old) }
 {
-    if begins_part(tokens) {
-        some_parts_at(alloc, tokens)
+    if begins_part(reader) {
+        separated(reader, Mark::Comma)
     } else {
-        Ok((Items::new(alloc), tokens))
+        Ok(Items::new(reader.alloc))
     }
 }
 
-fn begins_part(tokens: &[Token]) -> bool
-    ensures { result ≡ meets begins_part (next (symbols tokens.now)) }
+fn begins_part(reader: &Reader) -> bool
+    ensures { result ≡ meets begins_part (next reader.now) }
 {
-    next_is(tokens, Kind::Name) || next_is(tokens, OPEN)
+    reader.next_is(Kind::Name) || reader.next_is_mark(Mark::OpenSquare)
 }
 
-fn some_parts_at<'t, 'a>(
-    alloc: Global,
-    tokens: &'t [Token<'a>],
-) -> Result<(Items<Part>, &'t [Token<'a>]), ParseStop>
-    ensures gives { Gives (λ x. (x.0, symbols x.1.now)) result (some_parts_at 63 (symbols tokens.entry.now)) }
-    ensures shorter { IfOk result (λ x. length x.1.now < length tokens.entry.now) }
-{
-    let (first, mut rest) = part_at(alloc, tokens)?;
-    let mut found = Items::new(alloc);
-    found.push(first)?;
-    'parts: while next_is(rest, COMMA) {
-        let (part, after) = next_part_at(alloc, rest)?;
-        found.push(part)?;
-        rest = after;
-    }
-    Ok((found, rest))
-}
+impl<'a> Production<'a> for Part<'a> {
+    ghost step = { part_at };
 
-fn next_part_at<'t, 'a>(
-    alloc: Global,
-    tokens: &'t [Token<'a>],
-) -> Result<(Part, &'t [Token<'a>]), ParseStop>
-    ensures gives { Gives (λ x. (x.0, symbols x.1.now)) result (next_at Comma part_at 63 (symbols tokens.entry.now)) }
-    ensures shorter { IfOk result (λ x. length x.1.now < length tokens.entry.now) }
-{
-    let rest = fixed_at(tokens, COMMA)?;
-    part_at(alloc, rest)
-}
-
-#[tactic(auto, unfolding(crate::specs::ReadingFile::part_at))]
-fn part_at<'t, 'a>(
-    alloc: Global,
-    tokens: &'t [Token<'a>],
-) -> Result<(Part, &'t [Token<'a>]), ParseStop>
-    ensures gives { Gives (λ x. (x.0, symbols x.1.now)) result (part_at 63 (symbols tokens.entry.now)) }
-    ensures shorter { IfOk result (λ x. length x.1.now < length tokens.entry.now) }
-{
-    if next_is(tokens, OPEN) {
-        subtask_at(alloc, tokens)
-    } else {
-        input_at(alloc, tokens)
+    #[tactic(auto, unfolding(crate::specs::steps::ReadingFile::part_at))]
+    fn read(reader: &mut Reader<'_, 'a>) -> Result<Part<'a>, ParseStop> {
+        if reader.next_is_mark(Mark::OpenSquare) {
+            read_subtask(reader)
+        } else {
+            read_input(reader)
+        }
     }
 }
 
-#[tactic(auto, unfolding(crate::specs::ReadingFile::input_at))]
-fn input_at<'t, 'a>(
-    alloc: Global,
-    tokens: &'t [Token<'a>],
-) -> Result<(Part, &'t [Token<'a>]), ParseStop>
-    ensures gives { Gives (λ x. (x.0, symbols x.1.now)) result (input_at 63 (symbols tokens.entry.now)) }
-    ensures shorter { IfOk result (λ x. length x.1.now < length tokens.entry.now) }
+#[tactic(auto, unfolding(crate::specs::steps::ReadingFile::input_at))]
+fn read_input<'a>(reader: &mut Reader<'_, 'a>) -> Result<Part<'a>, ParseStop>
+    ensures reads { ReadBy input_at reader.old result reader.new }
+    ensures shorter { OnOk result (length reader.new < length reader.old) }
 {
-    let (path, rest) = path_at(alloc, tokens)?;
-    Ok((Part::Input(path), rest))
+    let path = Path::read(reader)?;
+    Ok(Part::Input(path))
 }
 
-#[tactic(auto, unfolding(crate::specs::ReadingFile::subtask_at))]
-fn subtask_at<'t, 'a>(
-    alloc: Global,
-    tokens: &'t [Token<'a>],
-) -> Result<(Part, &'t [Token<'a>]), ParseStop>
-    ensures gives { Gives (λ x. (x.0, symbols x.1.now)) result (subtask_at 63 (symbols tokens.entry.now)) }
-    ensures shorter { IfOk result (λ x. length x.1.now < length tokens.entry.now) }
+#[tactic(auto, unfolding(crate::specs::steps::ReadingFile::subtask_at))]
+fn read_subtask<'a>(reader: &mut Reader<'_, 'a>) -> Result<Part<'a>, ParseStop>
+    ensures reads { ReadBy subtask_at reader.old result reader.new }
+    ensures shorter { OnOk result (length reader.new < length reader.old) }
 {
-    let rest = fixed_at(tokens, OPEN)?;
-    let (inputs, rest) = paths_at(alloc, rest)?;
-    let rest = fixed_at(rest, Kind::Mark(Mark::Arrow))?;
-    let (output, rest) = path_at(alloc, rest)?;
-    let rest = fixed_at(rest, Kind::Mark(Mark::CloseSquare))?;
-    Ok((Part::Subtask { inputs, output }, rest))
+    reader.mark(Mark::OpenSquare)?;
+    let inputs = read_paths(reader)?;
+    reader.mark(Mark::Arrow)?;
+    let outputs = read_paths(reader)?;
+    reader.mark(Mark::CloseSquare)?;
+    Ok(Part::Subtask { inputs, outputs })
 }

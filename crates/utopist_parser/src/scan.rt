@@ -2,7 +2,7 @@
 ghost use Rattle.std.specs.Prelude.{◌≤◌, length, IfOk};
 ghost use Rattle.std.specs.Str.{chars};
 ghost use Rattle.priz_base.specs.Reading.{max_input};
-ghost use Rattle.utopist_parser.specs.Views.{TokensOf};
+ghost use Rattle.utopist_parser.specs.steps.Views.{TokensOf};
 
 use priz_base::NoMem;
 use std::alloc::Global;

@@ -1,5 +1,6 @@
 -- The canonical text of an expression.
-use Rattle.std.specs.Prelude.{ℕ, ℤ, List, [], ◌++◌, codes}
+use Rattle.std.specs.Prelude.{ℕ, ℤ, pos, if◌then◌else◌, List, [], ◌++◌, codes}
+use Rattle.std.specs.Ordering.{int_eq}
 use Rattle.std.specs.Fmt.{signed_decimal}
 use Rattle.body_lang.specs.declared.op.Op.{Op}
 use Rattle.body_lang.specs.declared.op.Op.TheVariants.{Add, Sub, Mul, Div}
@@ -32,9 +33,17 @@ loop_text Sum = codes "sum"
 loop_text Prod = codes "prod"
 loop_text Iter = codes "iter"
 
--- a call of the k-th subtask, with the text of its arguments
-abbrev pub call_text : ℤ → List ℕ → List ℕ
-call_text k args = codes "$" ++ (signed_decimal k ++ (codes "(" ++ (args ++ codes ")")))
+-- nothing for the first output, "." and the number for another
+abbrev pub out_text : ℤ → List ℕ
+out_text out = if int_eq out (pos 1) then [] else codes "." ++ signed_decimal out
+
+-- the k-th subtask, and which of its outputs is asked for
+abbrev pub sub_spelling : ℤ → ℤ → List ℕ
+sub_spelling k out = codes "$" ++ (signed_decimal k ++ out_text out)
+
+-- a call, with the text of its arguments
+abbrev pub call_text : ℤ → ℤ → List ℕ → List ℕ
+call_text k out args = sub_spelling k out ++ (codes "(" ++ (args ++ codes ")"))
 
 abbrev mutual
   -- an expression at its position
@@ -50,7 +59,7 @@ abbrev mutual
   text_at p (loop kind name a b e) =
       (loop_text kind ++ (codes "(" ++ name.text)) ++ ((codes ", " ++ text_at Alone a)
       ++ ((codes ", " ++ text_at Alone b) ++ ((codes ", " ++ text_at Alone e) ++ codes ")")))
-  text_at p (call k place args) = call_text k (args_text args)
+  text_at p (call k out place args) = call_text k out (args_text args)
 
   -- arguments joined by commas
   pub args_text : ExprTrees → List ℕ

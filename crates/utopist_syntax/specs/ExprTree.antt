@@ -15,7 +15,7 @@ mutual
     op : Op → ExprTree → ExprTree → ExprTree
     choice : Cmp → ExprTree → ExprTree → ExprTree → ExprTree → ExprTree
     loop : LoopKind → Named → ExprTree → ExprTree → ExprTree → ExprTree
-    call : ℤ → Place → ExprTrees → ExprTree
+    call : ℤ → ℤ → Place → ExprTrees → ExprTree
 
   -- the arguments of a call
   pub data ExprTrees : Type 0 where

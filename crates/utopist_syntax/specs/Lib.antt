@@ -2,7 +2,8 @@ pub mod Named
 pub mod ExprTree
 pub mod View
 pub mod FileTree
-pub mod Asks
+pub mod TreeNames
+pub mod Shape
 pub mod PathText
 pub mod Round
 pub mod ExprText

@@ -18,7 +18,7 @@ expr_node (Expr-F.Neg a) = neg a
 expr_node (Expr-F.Op o a b) = op o a b
 expr_node (Expr-F.If c a b t e) = choice c a b t e
 expr_node (Expr-F.Loop kind name a b e) = loop kind name a b e
-expr_node (Expr-F.Call k place args) = call k place (expr_arguments args)
+expr_node (Expr-F.Call k out place args) = call k out place (expr_arguments args)
 
 -- an expression's tree
 abbrev pub tree_of : Expr → ExprTree

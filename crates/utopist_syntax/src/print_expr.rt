@@ -1,7 +1,7 @@
 ghost use Rattle.std.specs.Prelude.{◌≡◌, ◌++◌, codes};
 ghost use Rattle.priz_base.specs.Printing.{Prints};
 ghost use Rattle.utopist_syntax.specs.View.{tree_of, trees_of};
-ghost use Rattle.utopist_syntax.specs.ExprText.{op_text, cmp_text, loop_text, text_at, args_text, call_text, expr_text};
+ghost use Rattle.utopist_syntax.specs.ExprText.{op_text, cmp_text, loop_text, text_at, args_text, out_text, sub_spelling, call_text, expr_text};
 
 use crate::pieces::{print_if, print_number};
 use crate::position::Position;
@@ -63,7 +63,12 @@ fn print_at(position: Position, expr: &Expr, out: &mut Vec<u8>) -> Result<(), No
             out.push(b')')?;
             Ok(())
         }
-        Expr::Call { k, place: _, args } => print_call(*k, args.as_slice(), out),
+        Expr::Call {
+            k,
+            out: output,
+            place: _,
+            args,
+        } => print_call(*k, *output, args.as_slice(), out),
     }
 }
 
@@ -83,12 +88,11 @@ fn print_part(
 }
 
 #[cycle(expr)]
-fn print_call(k: i64, args: &[Expr], out: &mut Vec<u8>) -> Result<(), NoMem>
-    ensures { Prints (call_text k (args_text (trees_of args.now))) result
+fn print_call(k: i64, output: i64, args: &[Expr], out: &mut Vec<u8>) -> Result<(), NoMem>
+    ensures { Prints (call_text k output (args_text (trees_of args.now))) result
         out.old.items out.new.items }
 {
-    out.push(b'$')?;
-    print_number(k, out)?;
+    print_sub(k, output, out)?;
     out.push(b'(')?;
     print_args(args, out)?;
     out.push(b')')?;
@@ -105,6 +109,28 @@ fn print_args(args: &[Expr], out: &mut Vec<u8>) -> Result<(), NoMem>
         print_at(Position::Alone, arg, out)?;
         first = false;
     }
+    Ok(())
+}
+
+// The number of a subtask, and which of its outputs is asked for.
+fn print_sub(k: i64, output: i64, out: &mut Vec<u8>) -> Result<(), NoMem>
+    ensures { Prints (sub_spelling k output) result out.old.items out.new.items }
+{
+    out.push(b'$')?;
+    print_number(k, out)?;
+    print_output(output, out)?;
+    Ok(())
+}
+
+// Which output is asked for, where it isn't the first.
+fn print_output(output: i64, out: &mut Vec<u8>) -> Result<(), NoMem>
+    ensures { Prints (out_text output) result out.old.items out.new.items }
+{
+    if output == 1 {
+        return Ok(());
+    }
+    out.push(b'.')?;
+    print_number(output, out)?;
     Ok(())
 }
 

@@ -37,21 +37,21 @@ fn print_part(part: &Part, out: &mut Vec<u8>) -> Result<(), NoMem>
 {
     match part {
         Part::Input(path) => print_path(path, out),
-        Part::Subtask { inputs, output } => {
+        Part::Subtask { inputs, outputs } => {
             out.push(b'[')?;
-            print_task(inputs.as_slice(), output, out)?;
+            print_task(inputs.as_slice(), outputs.as_slice(), out)?;
             out.push(b']')?;
             Ok(())
         }
     }
 }
 
-fn print_task(inputs: &[Path], output: &Path, out: &mut Vec<u8>) -> Result<(), NoMem>
-    ensures { Prints (task_text inputs.now output.now) result out.old.items out.new.items }
+fn print_task(inputs: &[Path], outputs: &[Path], out: &mut Vec<u8>) -> Result<(), NoMem>
+    ensures { Prints (task_text inputs.now outputs.now) result out.old.items out.new.items }
 {
     print_paths(inputs, out)?;
     print_if(!inputs.is_empty(), b" ", out)?;
     out.extend_from_slice(b"-> ")?;
-    print_path(output, out)?;
+    print_paths(outputs, out)?;
     Ok(())
 }

@@ -1,71 +1,59 @@
 use Rattle.std.proofs.Common.{◌≤◌, ◌<◌, ◌+◌, ◌*◌, length}
 use Rattle.utopist_syntax.specs.View.{tree_of}
-use Rattle.utopist_parser.specs.Symbols.{symbols}
-use Rattle.utopist_parser.proofs.Operands.{Factors, Terms}
+use Rattle.utopist_parser.proofs.Operands.{SoManyOperands, rank}
 use Rattle.utopist_parser.proofs.Arguments.{Arguments}
 use Rattle.utopist_parser.proofs.+reading.Given as goal
 
-abbrev pub decreases-expr::factor_at : goal.decreases-expr::factor_at
-decreases-expr::factor_at l = l.room * 8
+abbrev pub decreases-expr::read_factor : goal.decreases-expr::read_factor
+decreases-expr::read_factor l = l.room * 16
 
-abbrev pub decreases-expr::term_at : goal.decreases-expr::term_at
-decreases-expr::term_at l = l.room * 8 + 1
+abbrev pub decreases-expr::read_operand : goal.decreases-expr::read_operand
+decreases-expr::read_operand l = l.room * 16 + 1 + rank l.group
 
-abbrev pub decreases-expr::chain_at : goal.decreases-expr::chain_at
-decreases-expr::chain_at l = l.room * 8 + 2
+abbrev pub decreases-expr::read_group : goal.decreases-expr::read_group
+decreases-expr::read_group l = l.room * 16 + 2 + rank l.group
 
-abbrev pub decreases-expr::expr_at : goal.decreases-expr::expr_at
-decreases-expr::expr_at l = l.room * 8 + 3
+abbrev pub decreases-expr::read_expr : goal.decreases-expr::read_expr
+decreases-expr::read_expr l = l.room * 16 + 5
 
-abbrev pub decreases-forms::expr_behind : goal.decreases-forms::expr_behind
-decreases-forms::expr_behind l = l.room * 8 + 4
+abbrev pub decreases-forms::read_behind : goal.decreases-forms::read_behind
+decreases-forms::read_behind l = l.room * 16 + 6
 
-abbrev pub decreases-forms::args_at : goal.decreases-forms::args_at
-decreases-forms::args_at l = l.room * 8 + 5
+abbrev pub decreases-forms::read_args : goal.decreases-forms::read_args
+decreases-forms::read_args l = l.room * 16 + 7
 
-abbrev pub decreases-forms::negated_at : goal.decreases-forms::negated_at
-decreases-forms::negated_at l = l.room * 8 + 6
+abbrev pub decreases-forms::read_negated : goal.decreases-forms::read_negated
+decreases-forms::read_negated l = l.room * 16 + 8
 
-abbrev pub decreases-forms::round_at : goal.decreases-forms::round_at
-decreases-forms::round_at l = l.room * 8 + 6
+abbrev pub decreases-forms::read_round : goal.decreases-forms::read_round
+decreases-forms::read_round l = l.room * 16 + 8
 
-abbrev pub decreases-forms::call_at : goal.decreases-forms::call_at
-decreases-forms::call_at l = l.room * 8 + 6
+abbrev pub decreases-forms::read_call : goal.decreases-forms::read_call
+decreases-forms::read_call l = l.room * 16 + 8
 
-abbrev pub decreases-forms::loop_at : goal.decreases-forms::loop_at
-decreases-forms::loop_at l = l.room * 8 + 6
+abbrev pub decreases-forms::read_loop : goal.decreases-forms::read_loop
+decreases-forms::read_loop l = l.room * 16 + 8
 
-abbrev pub decreases-forms::choice_at : goal.decreases-forms::choice_at
-decreases-forms::choice_at l = l.room * 8 + 6
+abbrev pub decreases-forms::read_choice : goal.decreases-forms::read_choice
+decreases-forms::read_choice l = l.room * 16 + 8
 
-abbrev pub invariant-expr::term_at-parts : goal.invariant-expr::term_at-parts
-invariant-expr::term_at-parts l = record {
-  gives : Factors l.breadth l.room (symbols l.tokens) (tree_of l.tree, l.nest) (symbols l.rest);
+abbrev pub invariant-expr::read_group-parts : goal.invariant-expr::read_group-parts
+invariant-expr::read_group-parts l = record {
+  gives : SoManyOperands l.group l.breadth l.room l.fn.reader (tree_of l.tree, l.nest) l.reader;
   some : 1 ≤ l.nest;
   within : l.nest ≤ l.room + 1;
-  shorter : length l.rest < length l.tokens;
+  shorter : length l.reader < length l.fn.reader;
 }
 
-abbrev pub decreases-expr::term_at-parts : goal.decreases-expr::term_at-parts
-decreases-expr::term_at-parts l = length l.rest
+abbrev pub decreases-expr::read_group-parts : goal.decreases-expr::read_group-parts
+decreases-expr::read_group-parts l = length l.reader
 
-abbrev pub invariant-expr::chain_at-parts : goal.invariant-expr::chain_at-parts
-invariant-expr::chain_at-parts l = record {
-  gives : Terms l.breadth l.room (symbols l.tokens) (tree_of l.tree, l.nest) (symbols l.rest);
-  some : 1 ≤ l.nest;
+abbrev pub invariant-forms::read_args-parts : goal.invariant-forms::read_args-parts
+invariant-forms::read_args-parts l = record {
+  gives : Arguments l.breadth l.room l.fn.reader l.found l.nest l.reader;
   within : l.nest ≤ l.room + 1;
-  shorter : length l.rest < length l.tokens;
+  shorter : length l.reader < length l.fn.reader;
 }
 
-abbrev pub decreases-expr::chain_at-parts : goal.decreases-expr::chain_at-parts
-decreases-expr::chain_at-parts l = length l.rest
-
-abbrev pub invariant-forms::args_at-parts : goal.invariant-forms::args_at-parts
-invariant-forms::args_at-parts l = record {
-  gives : Arguments l.breadth l.room (symbols l.tokens) l.found l.nest (symbols l.rest);
-  within : l.nest ≤ l.room + 1;
-  shorter : length l.rest < length l.tokens;
-}
-
-abbrev pub decreases-forms::args_at-parts : goal.decreases-forms::args_at-parts
-decreases-forms::args_at-parts l = length l.rest
+abbrev pub decreases-forms::read_args-parts : goal.decreases-forms::read_args-parts
+decreases-forms::read_args-parts l = length l.reader

@@ -1,4 +1,5 @@
 use Rattle.std.proofs.Common.{◌<◌, ◌+◌, ◌++◌, length, drop, append-nil, sym, ap, ◌∙◌, arith}
+use Rattle.std.proofs.Transfers.{starts_with_trans, starts_with_of_append}
 use Rattle.priz_base.proofs.More.{moved_on}
 use Rattle.answer_core.specs.Report.{value_line, value_lines}
 use Rattle.answer_core.proofs.Numbers.{lines_open, lines_end}
@@ -17,6 +18,7 @@ loop-i-preserved c =
     let opened = lines_open p vs xs i c.want-item.result x name c.loop-i-test.true below c.want-item.is c.index-values-i.is c.name.ensures in
     record {
       all = old.all;
+      kept = starts_with_trans _ _ _ (starts_with_of_append c.write_value.new.out.items c.loop-i.out.items _ c.in_ok-write_value.ensures) old.kept;
       rest = moved_on c.loop-i.out.items c.write_value.new.out.items (value_line name x) (value_lines p (drop (i + 1) vs) (drop (i + 1) xs)) _
           (ap (λ l. c.loop-i.out.items ++ l) (sym opened) ∙ old.rest) c.in_ok-write_value.ensures;
     }

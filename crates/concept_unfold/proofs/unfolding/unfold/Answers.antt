@@ -104,7 +104,7 @@ returns-clause-whole c =
     let names = ap (λ (p : Task). p.names) c.in_ok-add_items.ensures ∙ ap all_variables same in
     let added = c.in_ok-add_goal.ensures.added in
     whole c.add_goal.new.problem vars w.wants (ap (λ (p : Task). p.names) added) (ap (λ (p : Task). p.wants) added)
-    (subst (λ (v : List (List ℕ)). AreKnown v w.wants) (sym names) (wants_known f c.args.which w there c.requires.rules)) (it_asks f c.args.which w there c.requires.wants)
+    (subst (λ (v : List (List ℕ)). AreKnown v w.wants) (sym names) (wants_known f c.args.which w there c.requires.rules)) (it_asks f c.args.which w there c.requires.shape)
 
 pub returns-clause-plain : goal.returns-clause-plain
 returns-clause-plain c =

@@ -1,0 +1,39 @@
+//! What stands one after another with nothing between, as items and concepts do.
+ghost use Rattle.std.specs.Prelude.{◌≡◌, ◌<◌, ◌≤◌, Bool, length, map, OnOk};
+ghost use Rattle.utopist_parser.specs.steps.Answers.{ReadThrough};
+ghost use Rattle.utopist_parser.specs.steps.Steps.{StepOf, next, meets, repeat_at};
+ghost use Rattle.utopist_parser.specs.Symbols.{Symbol};
+
+use crate::parse_stop::ParseStop;
+use crate::reader::Reader;
+use sqlite_items::Items;
+
+/// What its first token announces. Contracts see it as its plain tree.
+pub trait Entry<'a>: Drop {
+    ghost Tree: { Type 0 };
+
+    ghost tree: { Self → Tree };
+
+    ghost begins: { Symbol → Bool };
+
+    ghost step: { StepOf Tree };
+
+    fn is_next(reader: &Reader<'_, 'a>) -> bool
+        ensures { result ≡ meets begins (next reader.now) };
+
+    fn read(reader: &mut Reader<'_, 'a>) -> Result<Self, ParseStop>
+        ensures reads { ReadThrough tree step reader.old result reader.new }
+        ensures shorter { OnOk result (length reader.new < length reader.old) };
+}
+
+/// All that follow one another, as long as one more is announced.
+pub fn repeated<'a, T: Entry<'a>>(reader: &mut Reader<'_, 'a>) -> Result<Items<T>, ParseStop>
+    ensures reads { ReadThrough (map T.tree) (repeat_at T.begins T.step) reader.old result reader.new }
+    ensures shorter { OnOk result (length reader.new ≤ length reader.old) }
+{
+    let mut found = Items::new(reader.alloc);
+    'entries: while T::is_next(reader) {
+        found.push(T::read(reader)?)?;
+    }
+    Ok(found)
+}
