@@ -11,7 +11,7 @@ use Rattle.utopist_lexer.specs.Places.{first_place, place_behind}
 use Rattle.utopist_lexer.specs.Spelling.{mark_text}
 use Rattle.utopist_lexer.specs.Lexical.{Tok, Spells, IsToken}
 use Rattle.utopist_lexer.specs.Tokens.{ReadsTo}
-use Rattle.utopist_lexer.specs.Tables.{front_mark}
+use Rattle.utopist_lexer.specs.steps.Tables.{front_mark}
 use Rattle.utopist_lexer.specs.Cutting.{StopsAt}
 use Rattle.utopist_lexer.proofs.Spellings.{mark_at-text}
 use Rattle.utopist_lexer.proofs.Leads.{lead, other, spells_lead, spells_something, other_mark}

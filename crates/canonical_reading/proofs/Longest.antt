@@ -19,7 +19,7 @@ use Rattle.utopist_lexer.specs.declared.token.Kind.TheVariants as kinds
 use Rattle.utopist_lexer.specs.Characters.{is_continue}
 use Rattle.utopist_lexer.specs.Spelling.{word_text, mark_text}
 use Rattle.utopist_lexer.specs.Lexical.{IsIdentifier, AreDigits, value_behind, value_of, Spells, IsFree, IsToken, max_name, max_number}
-use Rattle.utopist_lexer.specs.Tables.{front_mark}
+use Rattle.utopist_lexer.specs.steps.Tables.{front_mark}
 use Rattle.utopist_lexer.specs.Cutting.{StopsAt, IsUndotted}
 use Rattle.utopist_lexer.proofs.Spellings.{mark_greatest}
 use Rattle.utopist_lexer.proofs.Fronts.{sub_longest, dotted_longest}

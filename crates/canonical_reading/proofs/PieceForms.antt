@@ -12,7 +12,7 @@ use Rattle.utopist_lexer.specs.declared.mark.Mark.{Mark}
 use Rattle.utopist_lexer.specs.declared.mark.Mark.TheVariants as marks
 use Rattle.utopist_lexer.specs.Spelling.{word_text, mark_text}
 use Rattle.utopist_lexer.specs.Lexical.{max_name, max_number}
-use Rattle.utopist_lexer.specs.Tables.{front_mark}
+use Rattle.utopist_lexer.specs.steps.Tables.{front_mark}
 use Rattle.utopist_lexer.specs.Cutting.{StopsAt}
 use Rattle.utopist_lexer.proofs.Leads.{word_ascii, mark_ascii}
 use Rattle.utopist_syntax.specs.Named.{Named}

@@ -6,7 +6,7 @@ use Rattle.std.proofs.lemmas.List.FromFn.{map-range_with_len_more}
 use Rattle.proof_term.specs.declared.step.Sub.{Sub}
 use Rattle.proof_term.specs.Plain.{subs_of}
 use Rattle.cert_text.specs.BlockText.{more_subs_text}
-use Rattle.cert_text.specs.Parts.{sub_text}
+use Rattle.cert_text.specs.steps.Parts.{sub_text}
 
 -- the text of answers, the first of which has this byte before it
 abbrev pub after_text : ℕ → List Sub → List ℕ

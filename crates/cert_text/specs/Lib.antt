@@ -1,3 +1,3 @@
 pub mod BlockText
 pub mod WorldText
-pub mod Parts
+pub mod steps

@@ -2,7 +2,7 @@ ghost use Rattle.std.specs.Prelude.{◌<◌, length};
 ghost use Rattle.priz_base.specs.Printing.{Prints};
 ghost use Rattle.proof_term.specs.Plain.{subs_of};
 ghost use Rattle.cert_text.specs.BlockText.{block_text, subs_text, proof_line};
-ghost use Rattle.cert_text.specs.Parts.{step_text, sub_text};
+ghost use Rattle.cert_text.specs.steps.Parts.{step_text, sub_text};
 
 use itoa::Buffer;
 use priz_base::NoMem;

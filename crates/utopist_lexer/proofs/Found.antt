@@ -20,7 +20,7 @@ use Rattle.utopist_lexer.specs.Characters.{is_start, has}
 use Rattle.utopist_lexer.specs.Spelling.{word_text, mark_text}
 use Rattle.utopist_lexer.specs.Lexical.{AreDigits, value_of, SpellsOutput, Spells, IsLongest, IsFree, IsToken, max_name, max_number}
 use Rattle.utopist_lexer.specs.Faults.{Front, Faulty}
-use Rattle.utopist_lexer.specs.Tables.{word_of, front_mark}
+use Rattle.utopist_lexer.specs.steps.Tables.{word_of, front_mark}
 use denote.Bor.{Bor}
 use Rattle.utopist_lexer.specs.Cutting.{Parts, IsRun, StartsBy, StartsWith, IsValue, StopsAt, IsUndotted, Dotted, OutputAt, DigitsIfAny, IsOutput}
 use Rattle.utopist_lexer.proofs.Spellings.{word_of-text}

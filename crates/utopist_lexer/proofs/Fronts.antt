@@ -15,7 +15,7 @@ use Rattle.utopist_lexer.specs.Characters.{is_start, is_continue, has}
 use Rattle.utopist_lexer.specs.Spelling.{mark_text}
 use Rattle.utopist_lexer.specs.Lexical.{IsIdentifier, AreDigits, SpellsOutput, Spells}
 use Rattle.utopist_lexer.specs.Faults.{IsLoneDollar}
-use Rattle.utopist_lexer.specs.Tables.{front_mark}
+use Rattle.utopist_lexer.specs.steps.Tables.{front_mark}
 use Rattle.utopist_lexer.specs.Cutting.{StopsAt, IsRun, IsUndotted}
 use Rattle.utopist_lexer.proofs.CharacterFacts.{start_continues}
 use Rattle.utopist_lexer.proofs.Spellings.{mark_greatest, mark_found}

@@ -13,7 +13,7 @@ use Rattle.utopist_lexer.specs.Characters.{is_start, starts_otherwise}
 use Rattle.utopist_lexer.specs.Spelling.{mark_text}
 use Rattle.utopist_lexer.specs.Lexical.{IsLongest, IsToken}
 use Rattle.utopist_lexer.specs.Faults.{Faulty, IsLoneDollar}
-use Rattle.utopist_lexer.specs.Tables.{front_mark}
+use Rattle.utopist_lexer.specs.steps.Tables.{front_mark}
 use Rattle.utopist_lexer.specs.Cutting.{Parts, StartsBy}
 use Rattle.utopist_lexer.proofs.Spellings.{mark_some}
 use Rattle.utopist_lexer.proofs.Leads.{lead, other, other_lead, mark_ascii}

@@ -17,7 +17,7 @@ use Rattle.utopist_lexer.specs.Places.{first_place, place_behind, Stands}
 use Rattle.utopist_lexer.specs.Lexical.{Tok, AreDigits, value_of, Spells, IsLongest, IsFree, IsNumeral, Within, IsToken, max_number}
 use Rattle.utopist_lexer.specs.Faults.{Front, Faulty, IsLoneDollar}
 use Rattle.utopist_lexer.specs.Tokens.{ReadsTo}
-use Rattle.utopist_lexer.specs.Tables.{word_of, front_mark}
+use Rattle.utopist_lexer.specs.steps.Tables.{word_of, front_mark}
 use Rattle.utopist_lexer.specs.OneReading.{OneList, OneFault, NotBoth}
 use Rattle.utopist_lexer.specs.Spelling.{word_text, mark_text}
 use Rattle.utopist_lexer.proofs.Splits.{Splits, fronts_split}

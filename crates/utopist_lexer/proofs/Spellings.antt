@@ -8,7 +8,7 @@ use Rattle.utopist_lexer.specs.declared.word.Word.TheVariants as words
 use Rattle.utopist_lexer.specs.declared.mark.Mark.{Mark}
 use Rattle.utopist_lexer.specs.declared.mark.Mark.TheVariants as marks
 use Rattle.utopist_lexer.specs.Spelling.{word_text, mark_text}
-use Rattle.utopist_lexer.specs.Tables.{word_of, front_mark}
+use Rattle.utopist_lexer.specs.steps.Tables.{word_of, front_mark}
 
 -- ---- keywords
 

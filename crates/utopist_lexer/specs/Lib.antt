@@ -8,5 +8,5 @@ pub mod Faults
 pub mod Tokens
 pub mod Scanning
 pub mod OneReading
-pub mod Tables
+pub mod steps
 pub mod Cutting

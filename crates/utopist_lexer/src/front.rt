@@ -4,7 +4,7 @@ ghost use Rattle.std.specs.Str.{chars};
 ghost use Rattle.utopist_lexer.specs.Characters.{is_start, has, starts_otherwise};
 ghost use Rattle.utopist_lexer.specs.Lexical.{IsFree};
 ghost use Rattle.utopist_lexer.specs.Cutting.{StartsBy, StartsWith, TokenOf, FrontOf, OutputAt, DigitsIfAny, IsOutput};
-ghost use Rattle.utopist_lexer.specs.Tables.{word_of, front_mark};
+ghost use Rattle.utopist_lexer.specs.steps.Tables.{word_of, front_mark};
 
 use crate::classes::{Class, is_continue, is_start};
 use crate::cut::cut_before;

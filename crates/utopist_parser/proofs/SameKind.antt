@@ -11,7 +11,7 @@ use Rattle.utopist_lexer.specs.declared.token.Kind.{Kind}
 use Rattle.utopist_lexer.specs.declared.token.Kind.TheVariants as kinds
 use Rattle.utopist_lexer.specs.Spelling.{word_text, mark_text}
 use Rattle.utopist_lexer.specs.Kinds.{same_kind}
-use Rattle.utopist_lexer.specs.Tables.{word_of, front_mark}
+use Rattle.utopist_lexer.specs.steps.Tables.{word_of, front_mark}
 use Rattle.utopist_lexer.proofs.Spellings.{word_of-text, mark_at-text}
 
 pub some_same : {X : Type 0} (x y : X) → ◌≡◌ {A = Option X} (Some x) (Some y) → x ≡ y

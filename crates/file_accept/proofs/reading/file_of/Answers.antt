@@ -10,5 +10,5 @@ returns-in_err-file-clause-form c =
 pub returns-in-Some-clause-form : goal.returns-in-Some-clause-form
 returns-in-Some-clause-form c = unbuilt_form c.args.text.now c.in_ok-file.file c.in-Some.place c.in_ok-file.ensures.tree c.in-Some.ensures
 
-pub returns-in-None-clause-form : goal.returns-in-None-clause-form
-returns-in-None-clause-form c = built_form c.args.text.now c.in_ok-file.file c.in_ok-file.ensures.tree c.in-None.ensures
+pub returns-clause-form : goal.returns-clause-form
+returns-clause-form c = built_form c.args.text.now c.in_ok-file.file c.in_ok-file.ensures.tree c.in-None.ensures

@@ -1,5 +1,5 @@
 use Rattle.std.proofs.Common.{sym, ap, ◌∙◌}
-use Rattle.utopist_lexer.specs.Tables.{front_mark}
+use Rattle.utopist_lexer.specs.steps.Tables.{front_mark}
 use Rattle.utopist_lexer.proofs.Marks.{mark_boundary, mark_parts, mark_token, mark_fault}
 use Rattle.utopist_lexer.proofs.front.mark_of.Goals as goal
 
