@@ -26,3 +26,16 @@ pub fn operations_go_by_lowest_terms()
     ensures order { (x y : Ratio) → 0 < x.den → 0 < y.den → order_of (low x) (low y) ≡ order_of x y }
     ensures zero_test { (x : Ratio) → 0 < x.den → int_eq (low x).num (pos 0) ≡ int_eq x.num (pos 0) }
 {}
+
+/// A difference undoes a sum, and a quotient a product, and the other way round.
+pub fn operations_are_undone()
+    ensures sum { (x y : Ratio) → 0 < x.den → 0 < y.den
+        → low (difference_of (sum_of x y) y) ≡ low x }
+    ensures difference { (x y : Ratio) → 0 < x.den → 0 < y.den
+        → low (sum_of (difference_of x y) y) ≡ low x }
+    ensures product { (x y : Ratio) → 0 < x.den → 0 < y.den → y.num ≢ pos 0
+        → low (quotient_of (product_of x y) y) ≡ low x }
+    ensures quotient { (x y : Ratio) → 0 < x.den → 0 < y.den → y.num ≢ pos 0
+        → low (product_of (quotient_of x y) y) ≡ low x }
+    ensures negative { (x : Ratio) → low (negative_of (negative_of x)) ≡ low x }
+{}
