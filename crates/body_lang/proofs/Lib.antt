@@ -1,7 +1,13 @@
 pub mod Arguments
+pub mod Arithmetic
 pub mod BodyTrees
 pub mod Verdicts
 pub mod ClosedBodies
 pub mod ExactRuns
+pub mod ExactValues
+pub mod InverseParts
+pub mod InverseValues
+pub mod Inverses
 pub mod KeptValues
 pub mod LowestValues
+pub mod OperationParts

@@ -72,6 +72,10 @@ lowest_value : (precision : Precision) (z : Ratio) → 0 < z.den → IfOk (value
 lowest_value narrowly z h = fitting_is_lowest (fits (low z)) (low z) (low_is_lowest z h)
 lowest_value exactly z h = low_is_lowest z h
 
+-- a result is in lowest terms, whatever the terms that it is taken of
+pub results_are_lowest : (precision : Precision) (o : Op) (x y : Ratio) → 0 < x.den → 0 < y.den → IfOk (operate precision o x y) IsLowest
+results_are_lowest precision o x y p q = results IsLowest precision (lowest_value precision) o x y p q
+
 pub lowest_is_kept : (precision : Precision) → IsKept IsLowest precision
 lowest_is_kept precision = record {
   nought = whole_is_lowest (pos 0);

@@ -17,4 +17,8 @@ pub mod Sample
 pub mod OperationExamples
 pub mod LoopExamples
 pub mod CallExamples
+pub mod Occurrences
+pub mod Inverse
+pub mod ExactValue
+pub mod EquationExamples
 pub mod steps

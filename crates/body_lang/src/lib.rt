@@ -7,6 +7,7 @@ mod body_fault;
 mod check;
 mod cmp;
 mod equation;
+mod equation_laws;
 mod laws;
 mod loop_kind;
 mod numbers;
@@ -21,6 +22,9 @@ pub use body_fault::BodyFault;
 pub use check::check_body;
 pub use cmp::Cmp;
 pub use equation::Equation;
+pub use equation_laws::{
+    arithmetic_has_one_exact_value, equations_are_solved_as_they_should, inverses_solve_equations,
+};
 pub use laws::{
     bodies_mean_what_they_should, checked_bodies_read_what_is_there,
     exact_meaning_ends_in_the_narrow_value, values_are_in_lowest_terms,
