@@ -1,1 +1,4 @@
 pub mod Words
+mod ByPlace
+mod Models
+mod Every

@@ -1,8 +1,14 @@
-//! Worlds of finite Kripke models.
+//! Worlds of finite Kripke models, and the check that they are a countermodel of a goal.
 #![tactic(auto)]
 
+mod countermodel;
+mod laws;
 #[cfg(test)]
 mod tests;
+#[cfg(test)]
+mod tests_countermodel;
 mod worlds;
 
+pub use countermodel::check;
+pub use laws::worlds_force_by_place;
 pub use worlds::Worlds;

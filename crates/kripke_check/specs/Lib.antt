@@ -1,0 +1,2 @@
+pub mod ForcingByPlace
+pub mod steps
