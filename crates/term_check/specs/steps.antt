@@ -1,0 +1,2 @@
+-- What only private functions ask for.
+pub mod Adding

@@ -1,0 +1,11 @@
+//! Checks of blocks: that they prove the goal of a problem, and that they are separate.
+#![tactic(auto)]
+
+mod checker;
+mod proof;
+mod scope;
+mod separation;
+#[cfg(test)]
+mod tests;
+
+pub use checker::TermChecker;
