@@ -1,7 +1,7 @@
 -- Classes of characters: what the tables of Unicode say of ASCII.
-use Rattle.std.proofs.Common.{◌≡◌, ℕ, ◌<◌, Bool, true, false, eqb, refl, ap, ◌∙◌, arith}
-use Rattle.std.specs.Prelude.{◌||◌}
-use Rattle.std.specs.Char.{is_ascii_digit, is_ascii_alphabetic}
+use Rattle.std.proofs.Common.{◌≡◌, ℕ, ◌<◌, Bool, true, false, eqb, refl, sym, ap, ◌∙◌, arith}
+use Rattle.std.specs.Prelude.{◌||◌, ◌==◌}
+use Rattle.std.specs.Char.{is_ascii_digit, is_ascii, is_ascii_alphabetic, is_ascii_alphanumeric}
 use Rattle.std.proofs.lemmas.Bool.{or_left}
 use Rattle.std.proofs.lemmas.Bool.Decides.{nat_tests}
 use Rattle.unicode_ident.specs.Ident.{is_xid_start, is_xid_continue}
@@ -34,3 +34,12 @@ digit_no_start c h = plain_no_start c (grind (arith, nat_tests)) (grind (arith, 
 
 pub digit_small : (c : ℕ) → is_ascii_digit c ≡ true → c < 128
 digit_small c h = grind (arith, nat_tests)
+
+small : (c : ℕ) → true ≡ is_ascii c → c < 128
+small c h = grind (arith, nat_tests)
+
+pub start_ascii : (c : ℕ) → true ≡ is_ascii c → (is_ascii_alphabetic c || (c == 95)) ≡ is_start c
+start_ascii c h = ap (λ (b : Bool). b || (c == 95)) (sym (is_xid_start-ascii c (small c h)))
+
+pub continue_ascii : (c : ℕ) → true ≡ is_ascii c → (is_ascii_alphanumeric c || (c == 95)) ≡ is_continue c
+continue_ascii c h = sym (is_xid_continue-ascii c (small c h))

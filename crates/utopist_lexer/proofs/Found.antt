@@ -11,7 +11,6 @@ use Rattle.std.proofs.lemmas.Bool.Decides.{Decides-eqb}
 use Rattle.utopist_lexer.specs.declared.word.Word.{Word}
 use Rattle.utopist_lexer.specs.declared.word.TheConstants.{WORDS}
 use Rattle.utopist_lexer.specs.declared.mark.Mark.{Mark}
-use Rattle.utopist_lexer.specs.declared.mark.TheConstants.{MARKS}
 use Rattle.utopist_lexer.specs.declared.classes.Class.TheVariants as classes
 use Rattle.utopist_lexer.specs.declared.token.Kind.{Kind}
 use Rattle.utopist_lexer.specs.declared.token.Kind.TheVariants as kinds
@@ -20,7 +19,7 @@ use Rattle.utopist_lexer.specs.Characters.{is_start, has}
 use Rattle.utopist_lexer.specs.Spelling.{word_text, mark_text}
 use Rattle.utopist_lexer.specs.Lexical.{AreDigits, value_of, SpellsOutput, Spells, IsLongest, IsFree, IsToken, max_name, max_number}
 use Rattle.utopist_lexer.specs.Faults.{Front, Faulty}
-use Rattle.utopist_lexer.specs.steps.Tables.{word_of, front_mark}
+use Rattle.utopist_lexer.specs.steps.Tables.{word_of, marks_by_length, front_mark}
 use denote.Bor.{Bor}
 use Rattle.utopist_lexer.specs.Cutting.{Parts, IsRun, StartsBy, StartsWith, IsValue, StopsAt, IsUndotted, Dotted, OutputAt, DigitsIfAny, IsOutput}
 use Rattle.utopist_lexer.proofs.Spellings.{word_of-text}
@@ -44,7 +43,7 @@ word_of-some : (text : List ℕ) (w : Word) → word_of text ≡ Some w → text
 word_of-some text w e = sym ((bytes_eq-Decides (word_text w) text).0 (find_some (λ v. bytes_eq (word_text v) text) WORDS w e))
 
 pub mark_at-some : (text : List ℕ) (m : Mark) → front_mark text ≡ Some m → (rest : List ℕ) × (text ≡ mark_text m ++ rest)
-mark_at-some text m e = (_, (starts_is Decides-eqb text (mark_text m) _ refl).0 (find_some (λ n. starts_with eqb text (mark_text n)) MARKS m e))
+mark_at-some text m e = (_, (starts_is Decides-eqb text (mark_text m) _ refl).0 (find_some (λ n. starts_with eqb text (mark_text n)) marks_by_length m e))
 
 -- the characters of a keyword's bytes
 word_spelled : (text : List ℕ) (w : Word) → word_of text ≡ Some w → chars text ≡ word_text w

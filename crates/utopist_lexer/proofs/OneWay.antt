@@ -1,6 +1,6 @@
 -- A text is read in one way.
 use Rattle.std.proofs.Common.{◌≡◌, ℕ, ◌<◌, true, false, List, [], ◌∷◌, ◌++◌, length, Option, Some, refl, sym, ap, subst, ◌∙◌, arith, append_assoc, inl, inr, ⊎_elim}
-use Rattle.std.specs.Prelude.{◌⊎◌, ℤ, pos}
+use Rattle.std.specs.Prelude.{◌⊎◌, ℤ}
 use Rattle.std.specs.Char.{is_ascii_digit}
 use Rattle.std.specs.Str.{encode_utf8_all}
 use Rattle.std.proofs.lemmas.Bool.{and_parts, both_ways}
@@ -14,7 +14,7 @@ use Rattle.utopist_lexer.specs.declared.fault.LexKind.{LexKind}
 use Rattle.utopist_lexer.specs.declared.fault.LexKind.TheVariants as fault
 use Rattle.utopist_lexer.specs.Gap.{past_gap}
 use Rattle.utopist_lexer.specs.Places.{first_place, place_behind, Stands}
-use Rattle.utopist_lexer.specs.Lexical.{Tok, AreDigits, value_of, Spells, IsLongest, IsFree, IsNumeral, Within, IsToken, max_number}
+use Rattle.utopist_lexer.specs.Lexical.{Tok, AreDigits, Spells, IsLongest, IsFree, IsNumeral, Within, IsToken, max_number}
 use Rattle.utopist_lexer.specs.Faults.{Front, Faulty, IsLoneDollar}
 use Rattle.utopist_lexer.specs.Tokens.{ReadsTo}
 use Rattle.utopist_lexer.specs.steps.Tables.{word_of, front_mark}

@@ -10,16 +10,26 @@ pub fn is_blank(c: char) -> bool
     c == ' ' || c == '\t' || c == '\n' || c == '\r'
 }
 
+/// Most characters are answered without Unicode's tables.
+#[tactic(auto, using(crate::proofs::CharacterFacts::start_ascii))]
 pub fn is_start(c: char) -> bool
     ensures { result ≡ is_start c }
 {
-    is_xid_start(c) || c == '_'
+    if c.is_ascii() {
+        c.is_ascii_alphabetic() || c == '_'
+    } else {
+        is_xid_start(c)
+    }
 }
 
 pub fn is_continue(c: char) -> bool
     ensures { result ≡ is_continue c }
 {
-    is_xid_continue(c)
+    if c.is_ascii() {
+        c.is_ascii_alphanumeric() || c == '_'
+    } else {
+        is_xid_continue(c)
+    }
 }
 
 /// The characters that a run goes on with.

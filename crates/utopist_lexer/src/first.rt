@@ -9,7 +9,7 @@ pub fn first_char(text: &str) -> Option<(char, &str)>
     ensures bytes { IfSome result (λ x. text.now ≡ encode_utf8 x.0 ++ x.1.now) }
     ensures shorter { IfSome result (λ x. length x.1.now < length text.now) }
 {
-    let c = text.chars().next()?;
-    let (_, rest) = text.split_at(c.len_utf8());
-    Some((c, rest))
+    let mut left = text.chars();
+    let c = left.next()?;
+    Some((c, left.as_str()))
 }

@@ -11,7 +11,7 @@ use crate::cut::cut_before;
 use crate::digits::value_of;
 use crate::fault::LexKind;
 use crate::first::first_char;
-use crate::mark::{MARKS, Mark};
+use crate::mark::Mark;
 use crate::run::cut_run;
 use crate::token::Kind;
 use crate::word::{WORDS, Word};
@@ -160,5 +160,25 @@ fn word_of(text: &str) -> Option<Word>
 fn front_mark(text: &[u8]) -> Option<Mark>
     ensures { result ≡ front_mark text.now }
 {
-    MARKS.iter().copied().find(|m| text.starts_with(m.text()))
+    match text {
+        [b'<', b'=', ..] => Some(Mark::AtMost),
+        [b'-', b'>', ..] => Some(Mark::Arrow),
+        [b'(', ..] => Some(Mark::OpenRound),
+        [b')', ..] => Some(Mark::CloseRound),
+        [b'[', ..] => Some(Mark::OpenSquare),
+        [b']', ..] => Some(Mark::CloseSquare),
+        [b'{', ..] => Some(Mark::OpenCurly),
+        [b'}', ..] => Some(Mark::CloseCurly),
+        [b':', ..] => Some(Mark::Colon),
+        [b';', ..] => Some(Mark::Semicolon),
+        [b',', ..] => Some(Mark::Comma),
+        [b'.', ..] => Some(Mark::Dot),
+        [b'=', ..] => Some(Mark::Equal),
+        [b'<', ..] => Some(Mark::Less),
+        [b'+', ..] => Some(Mark::Plus),
+        [b'-', ..] => Some(Mark::Minus),
+        [b'*', ..] => Some(Mark::Star),
+        [b'/', ..] => Some(Mark::Slash),
+        _ => None,
+    }
 }

@@ -52,25 +52,3 @@ impl Mark {
         }
     }
 }
-
-// A mark stands before those that it begins with.
-pub const MARKS: [Mark; 18] = [
-    Mark::AtMost,
-    Mark::Arrow,
-    Mark::OpenRound,
-    Mark::CloseRound,
-    Mark::OpenSquare,
-    Mark::CloseSquare,
-    Mark::OpenCurly,
-    Mark::CloseCurly,
-    Mark::Colon,
-    Mark::Semicolon,
-    Mark::Comma,
-    Mark::Dot,
-    Mark::Equal,
-    Mark::Less,
-    Mark::Plus,
-    Mark::Minus,
-    Mark::Star,
-    Mark::Slash,
-];
