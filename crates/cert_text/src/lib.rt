@@ -1,5 +1,5 @@
 //! The text of certificates: blocks and lists of worlds.
-#![tactic(auto, using(priz_base::proofs::Kept::kept))]
+#![tactic(auto)]
 
 mod proof_line;
 #[cfg(test)]

@@ -1,3 +1,5 @@
+#![tactic(auto, using(priz_base::proofs::Kept::kept))]
+
 ghost use Rattle.std.specs.Prelude.{◌<◌, length};
 ghost use Rattle.priz_base.specs.Printing.{Prints};
 ghost use Rattle.proof_term.specs.Plain.{subs_of};

@@ -1,3 +1,5 @@
+#![tactic(auto, using(priz_base::proofs::Kept::kept))]
+
 ghost use Rattle.priz_base.specs.Printing.{Prints};
 ghost use Rattle.utopist_syntax.specs.FractionText.{fraction_text};
 

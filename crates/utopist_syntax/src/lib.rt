@@ -1,5 +1,5 @@
 //! The tree of the language, and its canonical text.
-#![tactic(auto, using(priz_base::proofs::Kept::kept))]
+#![tactic(auto)]
 
 mod compute;
 mod concept;
@@ -14,11 +14,11 @@ mod position;
 mod print_binds;
 mod print_compute;
 mod print_concept;
-mod print_expr;
 mod print_file;
 mod print_item;
 mod print_parts;
 mod print_path;
+mod print_tree;
 #[cfg(test)]
 mod tests;
 
@@ -31,3 +31,4 @@ pub use item::{Bind, Item, Part, VarKind};
 pub use name::Name;
 pub use path::Path;
 pub use print_file::print;
+pub use print_tree::print_expr;

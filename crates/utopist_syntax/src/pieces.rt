@@ -1,3 +1,5 @@
+#![tactic(auto, using(priz_base::proofs::Kept::kept))]
+
 ghost use Rattle.std.specs.Fmt.{signed_decimal};
 ghost use Rattle.priz_base.specs.Printing.{Prints};
 ghost use Rattle.utopist_syntax.specs.Round.{if_needed};

@@ -1,3 +1,5 @@
+#![tactic(auto, using(priz_base::proofs::Kept::kept))]
+
 ghost use Rattle.std.specs.Prelude.{codes};
 ghost use Rattle.std.specs.List.{join_by};
 ghost use Rattle.priz_base.specs.Printing.{Prints};

@@ -1,3 +1,5 @@
+#![tactic(auto, using(priz_base::proofs::Kept::kept))]
+
 ghost use Rattle.std.specs.Prelude.{◌++◌, codes};
 ghost use Rattle.priz_base.specs.Printing.{Prints};
 ghost use Rattle.utopist_syntax.specs.ItemText.{item_text, kind_text, body_text, var_text, eq_text, rel_text};
@@ -5,9 +7,9 @@ ghost use Rattle.utopist_syntax.specs.PathText.{path_text};
 
 use crate::pieces::print_text;
 use crate::print_binds::print_binds;
-use crate::print_expr::print_expr;
 use crate::print_parts::print_parts;
 use crate::print_path::{print_names, print_path};
+use crate::print_tree::print_expr;
 use crate::{Bind, Expr, Item, Name, Part, Path, VarKind};
 use priz_base::NoMem;
 

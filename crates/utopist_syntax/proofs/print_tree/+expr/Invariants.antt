@@ -3,7 +3,7 @@ use Rattle.std.specs.Io.{StartsWith}
 use Rattle.utopist_syntax.specs.View.{trees_of}
 use Rattle.utopist_syntax.specs.ExprText.{args_text}
 use Rattle.utopist_syntax.proofs.Joined.{left_args}
-use Rattle.utopist_syntax.proofs.print_expr.+expr.Given as goal
+use Rattle.utopist_syntax.proofs.print_tree.+expr.Given as goal
 
 abbrev pub invariant-print_args-loop-arg : goal.invariant-print_args-loop-arg
 invariant-print_args-loop-arg l = record {
