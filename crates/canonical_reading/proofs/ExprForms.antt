@@ -18,7 +18,7 @@ use Rattle.utopist_syntax.specs.ExprText.{op_text, cmp_text, loop_text, call_tex
 use Rattle.utopist_parser.specs.ExprSymbols.{cmp_mark, loop_word}
 use Rattle.canonical_reading.specs.Piece.{Piece, word_piece, mark_piece, name_piece}
 use Rattle.canonical_reading.specs.ExprPieces.{op_mark, round_pieces, called_pieces, pieces_at, args_pieces, more_pieces}
-use Rattle.canonical_reading.specs.Printable.{PrintableName, PrintableNumber, PrintableTree, PrintableTrees}
+use Rattle.canonical_reading.proofs.PrintableParts.{PrintableName, PrintableNumber, PrintableTree, PrintableTrees}
 use Rattle.canonical_reading.proofs.Forms.{anything, stops, free, Form, none_form, joins, asks, offers}
 use Rattle.canonical_reading.proofs.PieceForms.{space, word_form, name_form, number_form, sub_form, mark_form, less_form}
 use Rattle.canonical_reading.proofs.Spaced.{word_space, spaced_word, spaced_mark, comma_form, dotted_form}

@@ -24,7 +24,7 @@ use Rattle.utopist_syntax.specs.Canonical.{canonical}
 use Rattle.canonical_reading.specs.Piece.{Piece, HasPieces, mark_piece, number_piece, comma}
 use Rattle.canonical_reading.specs.ItemPieces.{item_pieces}
 use Rattle.canonical_reading.specs.FilePieces.{parents_pieces, concept_pieces, fraction_pieces, value_pieces, given_pieces, givens_pieces, compute_pieces, file_pieces}
-use Rattle.canonical_reading.specs.Printable.{PrintableName, PrintableItem, PrintableConcept, PrintableFraction, PrintableValue, PrintableGiven, PrintableCompute, Printable}
+use Rattle.canonical_reading.proofs.PrintableParts.{PrintableName, PrintableItem, PrintableConcept, PrintableFraction, PrintableValue, PrintableGiven, PrintableCompute, PrintableFile}
 use Rattle.canonical_reading.proofs.Follows.{has_pieces}
 use Rattle.canonical_reading.proofs.Forms.{anything, free, Laid, Form, none_form, joins, asks, offers, then_blanks, join_form, row_form, trees_form}
 use Rattle.canonical_reading.proofs.PieceForms.{space, line_feed, name_form, number_form, signed_form, mark_form}
@@ -96,7 +96,7 @@ compute_form c h =
 -- ---- files
 
 -- a whole file
-file_form : (f : File) → Printable (file_tree f) → Form anything anything (canonical f) (file_pieces (file_tree f))
+file_form : (f : File) → PrintableFile (file_tree f) → Form anything anything (canonical f) (file_pieces (file_tree f))
 file_form f h =
     let g = joins (trees_form PrintableConcept concept_text concept_pieces concept_tree anything concept_form f.concepts h.concepts) (row_form PrintableCompute compute_text compute_pieces anything compute_form f.computes h.computes) refl in g
 
@@ -110,5 +110,5 @@ form_laid text ps f =
     subst (λ (t : List ℕ). Laid anything t ps) (append-nil text) (subst (λ (p : List Piece). Laid anything (text ++ []) p) (append-nil ps) (f.lays [] [] laid_end))
 
 -- the canonical text of a file has its tokens
-pub file_has_pieces : (f : File) → Printable (file_tree f) → HasPieces (chars (canonical f)) (file_pieces (file_tree f))
+pub file_has_pieces : (f : File) → PrintableFile (file_tree f) → HasPieces (chars (canonical f)) (file_pieces (file_tree f))
 file_has_pieces f h = has_pieces (chars (canonical f)) (file_pieces (file_tree f)) (form_laid (canonical f) (file_pieces (file_tree f)) (file_form f h)).follows

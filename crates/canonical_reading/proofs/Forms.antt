@@ -8,7 +8,7 @@ use Rattle.utopist_lexer.specs.Gap.{past_gap}
 use Rattle.utopist_lexer.specs.Lexical.{IsFree, IsToken}
 use Rattle.utopist_lexer.specs.Cutting.{StopsAt}
 use Rattle.canonical_reading.specs.Piece.{Piece}
-use Rattle.canonical_reading.specs.Printable.{SomeAndAll}
+use Rattle.canonical_reading.proofs.PrintableParts.{SomeAndAll}
 use Rattle.canonical_reading.proofs.Classes.{free_stops}
 use Rattle.canonical_reading.proofs.Follows.{Follows, opens}
 

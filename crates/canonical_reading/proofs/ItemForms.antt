@@ -23,7 +23,7 @@ use Rattle.canonical_reading.specs.PathPieces.{path_pieces, paths_pieces}
 use Rattle.canonical_reading.specs.Piece.{mark_piece, comma}
 use Rattle.canonical_reading.specs.ExprPieces.{expr_pieces}
 use Rattle.canonical_reading.specs.ItemPieces.{kind_pieces, bind_pieces, binds_pieces, task_pieces, part_pieces, parts_pieces, body_pieces, item_pieces}
-use Rattle.canonical_reading.specs.Printable.{SomeAndAll, PrintablePath, PrintableTree, PrintableKind, PrintableBind, PrintablePart, PrintableBody, PrintableItem}
+use Rattle.canonical_reading.proofs.PrintableParts.{SomeAndAll, PrintablePath, PrintableTree, PrintableKind, PrintableBind, PrintablePart, PrintableBody, PrintableItem}
 use Rattle.canonical_reading.proofs.Forms.{anything, stops, free, Form, none_form, joins, asks, offers, then_blanks, join_form}
 use Rattle.canonical_reading.proofs.PieceForms.{space, word_form, name_form, mark_form}
 use Rattle.canonical_reading.proofs.Spaced.{word_space, mark_space, space_mark, spaced_mark, comma_form, names_form, dotted_form}

@@ -1,3 +1,5 @@
+mod PrintableParts
+mod PartsPrint
 mod Classes
 mod Longest
 mod Follows

@@ -18,7 +18,7 @@ use Rattle.utopist_lexer.proofs.Leads.{word_ascii, mark_ascii}
 use Rattle.utopist_syntax.specs.Named.{Named}
 use Rattle.utopist_syntax.specs.ExprText.{out_text, sub_spelling}
 use Rattle.canonical_reading.specs.Piece.{Piece, word_piece, mark_piece, name_piece, number_piece, sub_piece, signed_pieces}
-use Rattle.canonical_reading.specs.Printable.{PrintableName, PrintableNumber}
+use Rattle.canonical_reading.proofs.PrintableParts.{PrintableName, PrintableNumber}
 use Rattle.canonical_reading.proofs.Classes.{stops_ascii, free_ascii}
 use Rattle.canonical_reading.proofs.Longest.{name_token, word_token, mark_token, number_token, sub_token, small}
 use Rattle.canonical_reading.proofs.Follows.{Follows, stops_greater}

@@ -23,7 +23,7 @@ use Rattle.utopist_parser.specs.ExprTree.{all_of, see_expr}
 use Rattle.utopist_parser.specs.FileSymbols.{spell_option, spell_names, spell_paths, spell_bind, spell_binds, spell_kind, spell_part, spell_parts, spell_body, spell_item, spell_parents, spell_concept, spell_below, spell_minus, spell_value, spell_given, spell_givens, spell_compute, spell_file}
 use Rattle.utopist_parser.specs.FileSeen.{all_if_any, see_option, see_path, see_bind, see_kind, see_binds, see_part, see_item, see_concept, denominator, see_value, see_given, see_compute, see_file}
 use Rattle.utopist_parser.specs.Forms.{ReadsAs}
-use Rattle.canonical_reading.specs.Printable.{SomeAndAll, PrintableName, PrintableNames, PrintablePath, PrintableKind, PrintableBind, PrintablePart, PrintableBody, PrintableItem, PrintableConcept, PrintableFraction, PrintableValue, PrintableGiven, PrintableCompute, Printable}
+use Rattle.canonical_reading.proofs.PrintableParts.{SomeAndAll, PrintableName, PrintableNames, PrintablePath, PrintableKind, PrintableBind, PrintablePart, PrintableBody, PrintableItem, PrintableConcept, PrintableFraction, PrintableValue, PrintableGiven, PrintableCompute, PrintableFile}
 use Rattle.canonical_reading.proofs.GoodSymbols.{AllGood, AllGood-append, tokens_good}
 use Rattle.canonical_reading.proofs.ReadableExpr.{GoodGives, nothing, both, fixed_then, name_then, number_then, form, many, parted, all_seen, name_readable, path_readable, expr_readable, chain_readable}
 
@@ -166,13 +166,13 @@ compute_readable c =
 -- ---- files
 
 -- a file of good symbols can be printed
-file_readable : (w : WrittenFile) → GoodGives (spell_file w) (Printable (see_file w))
+file_readable : (w : WrittenFile) → GoodGives (spell_file w) (PrintableFile (see_file w))
 file_readable w =
     form (λ p. record { concepts = all_seen see_concept PrintableConcept w.concepts p.0; computes = all_seen see_compute PrintableCompute w.computes p.1.0 })
     (both (many spell_concept (λ c. PrintableConcept (see_concept c)) concept_readable w.concepts) (both (many spell_compute (λ c. PrintableCompute (see_compute c)) compute_readable w.computes) (fixed_then kinds.End nothing)))
 
 -- what a text reads as can be printed
-pub readable_prints : (text : List ℕ) → IsUtf8 text → (f : FileTree) → ReadsAs text f → Printable f
+pub readable_prints : (text : List ℕ) → IsUtf8 text → (f : FileTree) → ReadsAs text f → PrintableFile f
 readable_prints text u f r =
     let good = AllGood-append (map symbol_of r.tokens) (end ∷ []) (tokens_good text r.tokens u r.read) (tt, tt) in
-    subst Printable r.tree ((file_readable r.written).shows (subst AllGood r.grammar good))
+    subst PrintableFile r.tree ((file_readable r.written).shows (subst AllGood r.grammar good))

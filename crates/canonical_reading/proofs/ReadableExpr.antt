@@ -14,7 +14,7 @@ use Rattle.utopist_parser.specs.Written as written
 use Rattle.utopist_parser.specs.Written.{WrittenPath, Expression, choice, plain, Chain, one_term, add, Term, one_factor, mul, Factor, negated, literal, variable, round, call, loop, Further, no_more, and_then}
 use Rattle.utopist_parser.specs.ExprSymbols.{behind, separated, spell_name, spell_path, sign_mark, scale_mark, cmp_mark, loop_word, spell_expr, spell_chain, spell_term, spell_factor, spell_exprs}
 use Rattle.utopist_parser.specs.ExprTree.{all_of, see_expr, see_chain, see_term, see_factor, see_exprs}
-use Rattle.canonical_reading.specs.Printable.{SomeAndAll, PrintableName, PrintableNames, PrintableNumber, PrintableTree, PrintableTrees}
+use Rattle.canonical_reading.proofs.PrintableParts.{SomeAndAll, PrintableName, PrintableNames, PrintableNumber, PrintableTree, PrintableTrees}
 use Rattle.canonical_reading.proofs.GoodSymbols.{AllGood, good_parts}
 
 -- this holds where these symbols are good

@@ -15,7 +15,7 @@ use Rattle.utopist_parser.specs.Forms.{ReadsAs}
 use Rattle.canonical_reading.specs.Piece.{Piece, piece_of}
 use Rattle.canonical_reading.proofs.SymbolPiece.{symbol_piece}
 use Rattle.canonical_reading.specs.FilePieces.{file_pieces}
-use Rattle.canonical_reading.specs.Printable.{Printable}
+use Rattle.canonical_reading.proofs.PrintableParts.{PrintableFile}
 use Rattle.canonical_reading.proofs.CanonicalForm.{canonical_file}
 use Rattle.canonical_reading.specs.Unplaced.{unplaced}
 use Rattle.canonical_reading.proofs.Likeness.{AreLike}
@@ -46,7 +46,7 @@ read_back text u f r =
     let w = canonical_file r.written in
     let same : see_file w ≡ file_tree f = canonical_file_seen r.written ∙ r.tree in
     let printable = readable_prints text u (file_tree f) r in
-    let told = file_told w (subst Printable (sym same) printable) in
+    let told = file_told w (subst PrintableFile (sym same) printable) in
     let p = file_has_pieces f printable in
     let like = like_with_end (spell_file w) p.0 _ told (p.2 ∙ ap file_pieces (sym r.tree)) (canonical_pieces max_nesting r.written r.within) in
     let y = replaced_file w (map symbol_of p.0 ++ (end ∷ [])) like in (

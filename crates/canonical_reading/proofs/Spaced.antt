@@ -9,7 +9,7 @@ use Rattle.utopist_syntax.specs.Named.{Named}
 use Rattle.utopist_syntax.specs.PathText.{names_text}
 use Rattle.canonical_reading.specs.Piece.{word_piece, mark_piece, name_piece, comma}
 use Rattle.canonical_reading.specs.PathPieces.{names_pieces}
-use Rattle.canonical_reading.specs.Printable.{PrintableName, PrintableNames}
+use Rattle.canonical_reading.proofs.PrintableParts.{PrintableName, PrintableNames}
 use Rattle.canonical_reading.proofs.Forms.{anything, stops, free, meets_anything, Form, joins, join_form}
 use Rattle.canonical_reading.proofs.PieceForms.{space, word_form, name_form, is_sure, mark_front, mark_form}
 

@@ -13,7 +13,7 @@ use Rattle.utopist_parser.specs.ExprSymbols.{spell_name, spell_path}
 use Rattle.utopist_parser.specs.ExprTree.{all_of, see_expr}
 use Rattle.utopist_parser.specs.FileSymbols.{spell_option, spell_names, spell_paths, spell_bind, spell_binds, spell_kind, spell_part, spell_parts, spell_body, spell_item, spell_parents, spell_concept, spell_below, spell_minus, spell_value, spell_given, spell_givens, spell_compute, spell_file}
 use Rattle.utopist_parser.specs.FileSeen.{all_if_any, see_option, see_path, see_bind, see_kind, see_binds, see_part, see_item, see_concept, see_given, see_compute, see_file}
-use Rattle.canonical_reading.specs.Printable.{SomeAndAll, PrintableName, PrintableNames, PrintablePath, PrintableKind, PrintableBind, PrintablePart, PrintableBody, PrintableItem, PrintableConcept, PrintableGiven, PrintableCompute, Printable}
+use Rattle.canonical_reading.proofs.PrintableParts.{SomeAndAll, PrintableName, PrintableNames, PrintablePath, PrintableKind, PrintableBind, PrintablePart, PrintableBody, PrintableItem, PrintableConcept, PrintableGiven, PrintableCompute, PrintableFile}
 use Rattle.canonical_reading.proofs.ToldExpr.{Told, before, nothing, a_word, a_mark, a_number, a_name, the_end, many, parted, name_told, path_told, expr_told, chain_told}
 
 -- ---- what is seen of several forms
@@ -137,7 +137,7 @@ compute_told c h =
 -- ---- files
 
 -- the pieces of a file tell its symbols, where its tree can be printed
-pub file_told : (w : WrittenFile) → Printable (see_file w) → Told (spell_file w)
+pub file_told : (w : WrittenFile) → PrintableFile (see_file w) → Told (spell_file w)
 file_told w h =
     before (many_seen spell_concept see_concept PrintableConcept concept_told w.concepts h.concepts)
     (before (many_seen spell_compute see_compute PrintableCompute compute_told w.computes h.computes) the_end)

@@ -20,7 +20,7 @@ use Rattle.utopist_parser.specs.ExprTree.{all_of, see_expr, see_chain, see_term,
 use Rattle.canonical_reading.specs.Piece.{Piece, piece_of}
 use Rattle.canonical_reading.proofs.SymbolPiece.{symbol_piece}
 use Rattle.canonical_reading.proofs.Likeness.{IsLike, AreLike}
-use Rattle.canonical_reading.specs.Printable.{SomeAndAll, PrintableName, PrintableNames, PrintableTree, PrintableTrees}
+use Rattle.canonical_reading.proofs.PrintableParts.{SomeAndAll, PrintableName, PrintableNames, PrintableTree, PrintableTrees}
 
 -- ---- symbols that their pieces tell
 

@@ -3,6 +3,7 @@ pub mod PathPieces
 pub mod ExprPieces
 pub mod ItemPieces
 pub mod FilePieces
+pub mod TreeNumbers
 pub mod Printable
 pub mod Unplaced
 pub mod RoundTrip

@@ -1,26 +1,13 @@
 -- Trees of files whose canonical text has their tokens.
-use Rattle.std.specs.Prelude.{ℤ, pos, negsuc, ◌≤◌, List, [], ◌∷◌, length, unsigned_abs, Option, Some, None}
-use Rattle.std.specs.List.{AllByRecursion}
+use Rattle.std.specs.Prelude.{◌≤◌, ℤ, All, length, unsigned_abs}
 use Rattle.std.specs.Str.{IsUtf8, chars}
-use Rattle.priz_frac.specs.Ratio.{Ratio}
 use Rattle.utopist_lexer.specs.declared.token.Kind.TheVariants as kinds
 use Rattle.utopist_lexer.specs.Lexical.{Spells, max_name, max_number}
 use Rattle.utopist_syntax.specs.Named.{Named}
-use Rattle.utopist_syntax.specs.ExprTree.{ExprTree, ExprTrees, num, path, neg, op, choice, loop, call, none, more}
-use Rattle.utopist_syntax.specs.FileTree.{ItemTree, ConceptTree, FileTree, var, eq, rel}
-use Rattle.utopist_syntax.specs.declared.path.Path.{Path}
-use Rattle.utopist_syntax.specs.declared.item.VarKind.{VarKind}
-use Rattle.utopist_syntax.specs.declared.item.VarKind.TheVariants.{Numeric, Of}
-use Rattle.utopist_syntax.specs.declared.item.Bind.{Bind}
-use Rattle.utopist_syntax.specs.declared.item.Part.{Part}
-use Rattle.utopist_syntax.specs.declared.item.Part.TheVariants.{Input, Subtask}
-use Rattle.utopist_syntax.specs.declared.compute.Compute.{Compute}
-use Rattle.utopist_syntax.specs.declared.compute.GivenPath.{GivenPath}
-
--- one or more, and P holds of each
-abbrev pub SomeAndAll : {X : Type 0} → (X → Type 0) → List X → Type 0
-SomeAndAll P [] = ⊥
-SomeAndAll P (x ∷ xs) = P x × AllByRecursion P xs
+use Rattle.utopist_syntax.specs.FileTree.{FileTree}
+use Rattle.utopist_syntax.specs.Shape.{HasShape}
+use Rattle.utopist_syntax.specs.TreeNames.{file_names}
+use Rattle.canonical_reading.specs.TreeNumbers.{file_numbers}
 
 -- text that spells a name and no keyword, and is not too long
 pub record PrintableName (n : Named) : Type 0 where
@@ -28,87 +15,12 @@ pub record PrintableName (n : Named) : Type 0 where
   pub spells : Spells kinds.Name (chars n.text)
   pub short : length n.text ≤ max_name
 
--- one or more names
-abbrev pub PrintableNames : List Named → Type 0
-PrintableNames = SomeAndAll PrintableName
+-- not past the greatest number, whatever the sign
+abbrev pub PrintableInteger : ℤ → Type 0
+PrintableInteger i = unsigned_abs i ≤ max_number
 
--- one or more names
-abbrev pub PrintablePath : Path → Type 0
-PrintablePath p = PrintableNames p.parts
-
--- not negative, and not past the greatest number
-abbrev pub PrintableNumber : ℤ → Type 0
-PrintableNumber (pos n) = n ≤ max_number
-PrintableNumber (negsuc n) = ⊥
-
-abbrev mutual
-  -- the names and numbers of an expression
-  pub PrintableTree : ExprTree → Type 0
-  PrintableTree (num n) = PrintableNumber n
-  PrintableTree (path names) = PrintableNames names
-  PrintableTree (neg a) = PrintableTree a
-  PrintableTree (op o a b) = PrintableTree a × PrintableTree b
-  PrintableTree (choice c a b t e) = PrintableTree a × PrintableTree b × PrintableTree t × PrintableTree e
-  PrintableTree (loop kind n a b e) = PrintableName n × PrintableTree a × PrintableTree b × PrintableTree e
-  PrintableTree (call k out place args) = PrintableNumber k × PrintableNumber out × PrintableTrees args
-
-  -- those of arguments, if there are any
-  pub PrintableTrees : ExprTrees → Type 0
-  PrintableTrees none = Unit {0}
-  PrintableTrees (more a rest) = PrintableTree a × PrintableTrees rest
-
--- the name of a concept, if there is one
-abbrev pub PrintableKind : VarKind → Type 0
-PrintableKind Numeric = Unit {0}
-PrintableKind (Of n) = PrintableName n
-
--- both paths
-abbrev pub PrintableBind : Bind → Type 0
-PrintableBind b = PrintablePath b.left × PrintablePath b.right
-
--- each path; a subtask may have no inputs, and has one or more outputs
-abbrev pub PrintablePart : Part → Type 0
-PrintablePart (Input p) = PrintablePath p
-PrintablePart (Subtask inputs outputs) = AllByRecursion PrintablePath inputs × SomeAndAll PrintablePath outputs
-
--- the expression, if there is one
-abbrev pub PrintableBody : Option ExprTree → Type 0
-PrintableBody None = Unit {0}
-PrintableBody (Some e) = PrintableTree e
-
--- a variable has one or more names; bindings and parts may be none
-abbrev pub PrintableItem : ItemTree → Type 0
-PrintableItem (var names kind binds) = PrintableNames names × PrintableKind kind × AllByRecursion PrintableBind binds
-PrintableItem (eq left right) = PrintableTree left × PrintableTree right
-PrintableItem (rel n parts output body) = PrintableName n × AllByRecursion PrintablePart parts × PrintablePath output × PrintableBody body
-
--- parents and items may be none
-pub record PrintableConcept (c : ConceptTree) : Type 0 where
-  pub name : PrintableName c.name
-  pub parents : AllByRecursion PrintableName c.parents
-  pub items : AllByRecursion PrintableItem c.items
-
--- neither part is past the greatest number, whatever the sign
-pub record PrintableFraction (x : Ratio) : Type 0 where
-  pub num : unsigned_abs x.num ≤ max_number
-  pub den : x.den ≤ max_number
-
--- the value, if there is one
-abbrev pub PrintableValue : Option Ratio → Type 0
-PrintableValue None = Unit {0}
-PrintableValue (Some x) = PrintableFraction x
-
--- the path and the value
-abbrev pub PrintableGiven : GivenPath → Type 0
-PrintableGiven g = PrintablePath g.path × PrintableValue g.value
-
--- something is to be found; nothing may be given
-pub record PrintableCompute (c : Compute) : Type 0 where
-  pub name : PrintableName c.name
-  pub givens : AllByRecursion PrintableGiven c.givens
-  pub wants : SomeAndAll PrintablePath c.wants
-
--- each concept and each compute statement
+-- the shape of what was read, and each name and each number can be spelled
 pub record Printable (f : FileTree) : Type 0 where
-  pub concepts : AllByRecursion PrintableConcept f.concepts
-  pub computes : AllByRecursion PrintableCompute f.computes
+  pub shape : HasShape f
+  pub names : All PrintableName (file_names f)
+  pub numbers : All PrintableInteger (file_numbers f)

@@ -2,5 +2,7 @@
 #![tactic(auto)]
 
 mod laws;
+#[cfg(test)]
+mod tests;
 
 pub use laws::{canonical_text_has_its_tokens, canonical_text_is_read_back};

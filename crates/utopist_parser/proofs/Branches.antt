@@ -5,7 +5,7 @@ use Rattle.utopist_lexer.specs.declared.token.Kind.TheVariants as kinds
 use Rattle.utopist_parser.specs.declared.breadth.Breadth.{Breadth}
 use Rattle.utopist_parser.specs.declared.parse_stop.ParseStop.{ParseStop}
 use Rattle.utopist_parser.specs.Symbols.{Symbol}
-use Rattle.utopist_parser.specs.steps.Steps.{Reading, Miss, deep, next, meets, deeper}
+use Rattle.utopist_parser.specs.steps.Steps.{Reading, Miss, TooDeep, next, meets, deeper}
 use Rattle.utopist_parser.specs.steps.Single.{is_mark, is_kind}
 use Rattle.utopist_parser.specs.steps.ReadingExpr.{settled, begins_call, begins_loop, begins_choice, negated_step, round_step, call_step, loop_step, choice_step, literal_step, variable_step, levels_within, factor_at, chain_at, expr_at}
 use Rattle.utopist_parser.specs.steps.Answers.{Fails}
@@ -16,7 +16,7 @@ use Rattle.utopist_parser.proofs.Rooms.{negated_same, round_same, call_same, loo
 pub no_room : {V W : Type 0} (e : ParseStop) (room : ℕ) (ts : List Symbol) (v : V × List Symbol) (read : Reading W) → Fails e (deeper room ts (Ok v)) → Fails e (deeper room ts read)
 no_room {V} {W} e room ts v read h = fails_on e (deeper room ts (Ok v)) (deeper room ts read) (go room) h where
   go : (n : ℕ) (x : Miss) → deeper n ts (Ok v) ≡ Err x → deeper n ts read ≡ Err x
-  go zero x i = let same : (deep, length ts) ≡ x = cc in ap (λ (y : Miss). Err y) same
+  go zero x i = let same : (TooDeep, length ts) ≡ x = cc in ap (λ (y : Miss). Err y) same
   go (suc n) x i = absurd cc
 
 module _ (b : Breadth) (room : ℕ) (ts : List Symbol) where

@@ -1,9 +1,37 @@
 -- The one or the other, by the next symbol, and nothing, keep the laws.
-use Rattle.std.proofs.Common.{◌≡◌, ℕ, ◌≤◌, Bool, true, false, cond, List, [], ◌∷◌, ◌++◌, Option, Ok, Err, refl, sym, subst, ◌∙◌, inl, inr}
+use Rattle.std.proofs.Common.{◌≡◌, ℕ, ◌≤◌, Bool, true, false, cond, List, [], ◌∷◌, ◌++◌, Option, Ok, Err, refl, sym, ap, subst, ◌∙◌, inl, inr}
 use Rattle.std.specs.Prelude.{◌⊎◌}
 use Rattle.utopist_parser.specs.Symbols.{Symbol}
-use Rattle.utopist_parser.specs.steps.Steps.{Why, expected, deep, Miss, StepOf, give, next, meets, choose_at}
+use Rattle.utopist_parser.specs.steps.Steps.{Why, Unexpected, TooDeep, Miss, StepOf, give, next, meets, choose_at}
 use Rattle.utopist_parser.proofs.StepLaws.{AtHead, at_head, Form, Stuck, Further, Took, Blames, AgainAt, Laws, Aspect, again_only, all_laws, Keeps, ok_is, same_next}
+
+-- ---- a side of a whole
+
+-- parts of the side are parts of the whole
+module _ {X Z : Type 0} (g : Form X) (whole : Form Z) (into : X → Z) (spelled : (x : X) → whole.spell (into x) ≡ g.spell x) (fits : (x : X) (M : ℕ) → g.Fits x M → whole.Fits (into x) M) where
+  side_further : (why : Why) (front : List Symbol) (c : Symbol) → Further g why front c → Further whole why front c
+  side_further Unexpected front c u = tt
+  side_further TooDeep front c u = (into u.0, u.1, spelled u.0 ∙ u.2, u.3, fits u.0 u.3 u.4)
+
+  -- where the same next symbol leads to the side
+  pub side_blames : {V : Type 0} (f k : StepOf V) (room : ℕ) (ts : List Symbol) (e : Miss) → ((M : ℕ) (l : List Symbol) → next l ≡ next ts → k M l ≡ f M l) → Blames g f room ts e → Blames whole k room ts e
+  side_blames f k room ts e same u = record {
+    front = u.front;
+    wrong = u.wrong;
+    split = u.split;
+    size = u.size;
+    begun = into u.begun;
+    more = u.more;
+    fits = fits u.begun room u.fits;
+    begins = spelled u.begun ∙ u.begins;
+    stuck = at u.wrong u.split u.stuck;
+    further = at_head (Further g e.0 u.front) (Further whole e.0 u.front) (λ c s. side_further e.0 u.front c s) u.wrong u.further;
+  } where
+    at : (wrong : List Symbol) → ts ≡ u.front ++ wrong → AtHead wrong (Stuck f room e.0 u.front) → AtHead wrong (Stuck k room e.0 u.front)
+    at [] split s = tt
+    at (c ∷ cs) split s = record { fails = λ M r more. same M (u.front ++ (c ∷ more)) (sym (ap next split ∙ same_next u.front c cs more)) ∙ s.fails M r more }
+
+-- ---- the one or the other
 
 module _ {X Y : Type 0} (g : Form X) (d : Form Y) where
   abbrev spell_either : X ⊎ Y → List Symbol
@@ -57,51 +85,9 @@ module _ {X Y V : Type 0} (g : Form X) (see_x : X → V) (d : Form Y) (see_y : Y
 
     choose_blames : (ts : List Symbol) (e : Miss) → E (next ts) → choose_at begins f k room ts ≡ Err e → Blames whole (choose_at begins f k) room ts e
     choose_blames ts e n h = go (meets begins (next ts)) refl h where
-      x_stuck : (front wrong : List Symbol) (why : Why) → meets begins (next (front ++ wrong)) ≡ true → AtHead wrong (Stuck f room why front) → AtHead wrong (Stuck (choose_at begins f k) room why front)
-      x_stuck front [] why i s = tt
-      x_stuck front (c ∷ cs) why i s = record { fails = λ M r more. rw (subst (λ o. meets begins o ≡ true) (same_next front c cs more) i) (s.fails M r more) }
-
-      y_stuck : (front wrong : List Symbol) (why : Why) → meets begins (next (front ++ wrong)) ≡ false → AtHead wrong (Stuck k room why front) → AtHead wrong (Stuck (choose_at begins f k) room why front)
-      y_stuck front [] why i s = tt
-      y_stuck front (c ∷ cs) why i s = record { fails = λ M r more. rw (subst (λ o. meets begins o ≡ false) (same_next front c cs more) i) (s.fails M r more) }
-
-      x_further : (why : Why) (front : List Symbol) (c : Symbol) → Further g why front c → Further whole why front c
-      x_further expected front c u = tt
-      x_further deep front c u = (inl u.0, u.1, u.2, u.3, u.4)
-
-      y_further : (why : Why) (front : List Symbol) (c : Symbol) → Further d why front c → Further whole why front c
-      y_further expected front c u = tt
-      y_further deep front c u = (inr u.0, u.1, u.2, u.3, u.4)
-
       go : (t : Bool) → meets begins (next ts) ≡ t → cond t (f room ts) (k room ts) ≡ Err e → Blames whole (choose_at begins f k) room ts e
-      go true i h =
-          let u = a.blames ts e (enters_x _ i n) h in
-          record {
-            front = u.front;
-            wrong = u.wrong;
-            split = u.split;
-            size = u.size;
-            begun = inl u.begun;
-            more = u.more;
-            fits = u.fits;
-            begins = u.begins;
-            stuck = x_stuck u.front u.wrong e.0 (subst (λ l. meets begins (next l) ≡ true) u.split i) u.stuck;
-            further = at_head (Further g e.0 u.front) (Further whole e.0 u.front) (λ c s. x_further e.0 u.front c s) u.wrong u.further;
-          }
-      go false i h =
-          let u = b.blames ts e (enters_y _ i n) h in
-          record {
-            front = u.front;
-            wrong = u.wrong;
-            split = u.split;
-            size = u.size;
-            begun = inr u.begun;
-            more = u.more;
-            fits = u.fits;
-            begins = u.begins;
-            stuck = y_stuck u.front u.wrong e.0 (subst (λ l. meets begins (next l) ≡ false) u.split i) u.stuck;
-            further = at_head (Further d e.0 u.front) (Further whole e.0 u.front) (λ c s. y_further e.0 u.front c s) u.wrong u.further;
-          }
+      go true i h = side_blames g whole (λ x. inl x) (λ x. refl) (λ x M u. u) f (choose_at begins f k) room ts e (λ M l same. rw (same, i) refl) (a.blames ts e (enters_x _ i n) h)
+      go false i h = side_blames d whole (λ y. inr y) (λ y. refl) (λ y M u. u) k (choose_at begins f k) room ts e (λ M l same. rw (same, i) refl) (b.blames ts e (enters_y _ i n) h)
 
     choose_laws : Laws whole (see_either see_x see_y) (choose_at begins f k) room
     choose_laws = record { again = λ M. choose_again M (a.again M) (b.again M); take = choose_take; blames = choose_blames }
@@ -134,24 +120,8 @@ module _ {X Y V : Type 0} (g : Form X) (see_x : X → V) (d : Form Y) (see_y : Y
   never_laws room b = record {
     again = λ M. never_again M (b.again M);
     take = λ ts v n e. let t = b.take ts v (enters_y _) (sym (never_is room ts) ∙ e) in record { part = inr t.part; seen = t.seen; parts = t.parts; fits = t.fits; stops = t.stops };
-    blames = λ ts e n h.
-        let u = b.blames ts e (enters_y _) (sym (never_is room ts) ∙ h) in
-        record {
-          front = u.front;
-          wrong = u.wrong;
-          split = u.split;
-          size = u.size;
-          begun = inr u.begun;
-          more = u.more;
-          fits = u.fits;
-          begins = u.begins;
-          stuck = at_head (Stuck k room e.0 u.front) (Stuck (choose_at begins f k) room e.0 u.front) (λ c s. record { fails = λ M r more. never_is M (u.front ++ (c ∷ more)) ∙ s.fails M r more }) u.wrong u.stuck;
-          further = at_head (Further d e.0 u.front) (Further (either g d) e.0 u.front) (λ c s. y_further e.0 u.front c s) u.wrong u.further;
-        };
-  } where
-    y_further : (why : Why) (front : List Symbol) (c : Symbol) → Further d why front c → Further (either g d) why front c
-    y_further expected front c u = tt
-    y_further deep front c u = (inr u.0, u.1, u.2, u.3, u.4)
+    blames = λ ts e n h. side_blames d (either g d) (λ y. inr y) (λ y. refl) (λ y M u. u) k (choose_at begins f k) room ts e (λ M l same. never_is M l) (b.blames ts e (enters_y _) (sym (never_is room ts) ∙ h));
+  }
 
   pub never_keeps : (m : Aspect) (room : ℕ) → Keeps m d see_y k room → Keeps m (either g d) (see_either see_x see_y) (choose_at begins f k) room
   never_keeps again_only room b = never_again room b

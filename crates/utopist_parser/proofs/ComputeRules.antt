@@ -1,5 +1,5 @@
 -- The rules of givens and of the compute statement.
-use Rattle.std.proofs.Common.{◌≡◌, ℕ, suc, Bool, true, false, List, [], ◌∷◌, ◌++◌, map, Option, Some, None, refl, ap}
+use Rattle.std.proofs.Common.{◌≡◌, ℕ, suc, Bool, true, false, List, [], map, Option, Some, None, refl}
 use Rattle.std.specs.Prelude.{ℤ, pos, unsigned_abs}
 use Rattle.priz_frac.specs.Ratio.{Ratio}
 use Rattle.priz_frac.specs.Lowest.{low}
@@ -10,21 +10,21 @@ use Rattle.utopist_lexer.specs.declared.token.Kind.TheVariants as kinds
 use Rattle.utopist_syntax.specs.Named.{Named}
 use Rattle.utopist_syntax.specs.declared.compute.Compute.{Compute}
 use Rattle.utopist_syntax.specs.declared.compute.GivenPath.{GivenPath}
-use Rattle.utopist_parser.specs.Symbols.{Symbol, number, word, mark}
-use Rattle.utopist_parser.specs.steps.Steps.{next, meets}
+use Rattle.utopist_parser.specs.Symbols.{Symbol, number, word}
+use Rattle.utopist_parser.specs.steps.Steps.{meets}
 use Rattle.utopist_parser.specs.steps.Single.{is_word, is_mark}
 use Rattle.utopist_parser.specs.Written.{OneOrMore, WrittenPath}
 use Rattle.utopist_parser.specs.WrittenFile.{WrittenNumber, WrittenGiven, WrittenCompute}
 use Rattle.utopist_parser.specs.ExprTree.{all_of}
-use Rattle.utopist_parser.specs.FileSymbols.{spell_option, spell_minus, spell_below, spell_value, spell_given, spell_givens, spell_compute}
-use Rattle.utopist_parser.specs.FileSeen.{see_option, see_path, denominator, see_value, see_given, see_compute}
+use Rattle.utopist_parser.specs.FileSymbols.{spell_minus, spell_value, spell_given, spell_givens, spell_compute}
+use Rattle.utopist_parser.specs.FileSeen.{see_path, see_value, see_given, see_compute}
 use Rattle.utopist_parser.specs.steps.ReadingFile.{minus_at, negative_at, some_below_at, below_at, some_value_at, given_value_at, given_at, some_givens_at, givens_at, compute_at}
 use Rattle.utopist_parser.proofs.StepLaws.{Form, Aspect}
 use Rattle.utopist_parser.proofs.Sequence.{both}
 use Rattle.utopist_parser.proofs.Recast.{recast}
 use Rattle.utopist_parser.proofs.Singles.{after, name_form, number_form, divisor_form}
 use Rattle.utopist_parser.proofs.Rules.{Rule, name_rule, number_rule, divisor_rule, after_word, after_mark, stop, stop_rule, then_rule, map_rule, recast_rule, separated_form, separated_stops, separated_rule, see_optional, optional, optional_rule, with_option, with_option_rule}
-use Rattle.utopist_parser.proofs.PathRules.{seen_rule, path_form, path_rule, path_stops, paths_form, paths_rule, paths_stop}
+use Rattle.utopist_parser.proofs.PathRules.{path_form, path_rule, path_stops, paths_form, paths_rule, paths_stop}
 use Rattle.utopist_parser.proofs.Meeting.{meets_other}
 use Rattle.utopist_parser.proofs.Free.{Free, free_after, free_stop, free_both, free_separated, free_optional, free_recast}
 use Rattle.utopist_parser.proofs.ItemRules.{free_name, free_path, free_paths}
@@ -121,24 +121,16 @@ some_value_rule =
     (λ b. then_rule (λ n o. Some (see_parts (b, (n, o)))) _ number_rule (λ n. map_rule (λ d. Some (low (signed_ratio b n (unsigned_abs d)))) below_rule) (λ n o rest s. tt))
     (λ b p rest s. negative_stops b (pos p.0) rest))
 
-value_spelled : (x : WrittenNumber) → value_pair.spell (x.negative, (x.above, x.below)) ≡ spell_value x
-value_spelled x = at x.below where
-  at : (o : Option ℕ) → value_pair.spell (x.negative, (x.above, o)) ≡ spell_value (record { negative = x.negative; above = x.above; below = o })
-  at None = refl
-  at (Some d) = refl
-
 value_seen : (x : WrittenNumber) → ◌≡◌ {A = Option Ratio} (Some (see_parts (x.negative, (x.above, x.below)))) (Some (see_value x))
-value_seen x = at x.below where
-  at : (o : Option ℕ) → ◌≡◌ {A = Option Ratio} (Some (see_parts (x.negative, (x.above, o)))) (Some (see_value (record { negative = x.negative; above = x.above; below = o })))
-  at None = refl
-  at (Some d) = refl
+value_seen x =
+    elim x.below as (λ d. ◌≡◌ {A = Option Ratio} (Some (see_parts (x.negative, (x.above, d)))) (Some (see_value (record { negative = x.negative; above = x.above; below = d })))) [ None ↦ refl | Some d ↦ refl ]
 
 abbrev some_value_form : Form WrittenNumber
 some_value_form = recast value_pair spell_value (λ x. (x.negative, (x.above, x.below)))
 
 number_value_rule : {m : Aspect} {room : ℕ} → Rule m room some_value_form (λ x. Some (see_value x)) some_value_at
 number_value_rule =
-    recast_rule {g = value_pair} {see = λ p. Some (see_parts p)} spell_value (λ x. Some (see_value x)) (λ p. record { negative = p.0; above = p.1.0; below = p.1.1 }) (λ x. (x.negative, (x.above, x.below))) (λ p. refl) value_spelled value_seen
+    recast_rule {g = value_pair} {see = λ p. Some (see_parts p)} spell_value (λ x. Some (see_value x)) (λ p. record { negative = p.0; above = p.1.0; below = p.1.1 }) (λ x. (x.negative, (x.above, x.below))) (λ p. refl) (λ x. refl) value_seen
     some_value_rule
 
 free_value : Free some_value_form
@@ -157,22 +149,13 @@ see_pair p = record { path = see_path p.0; value = see_optional (λ x. Some (see
 abbrev given_form : Form WrittenGiven
 given_form = recast given_pair spell_given (λ g. (g.path, g.value))
 
-given_spelled : (g : WrittenGiven) → given_pair.spell (g.path, g.value) ≡ spell_given g
-given_spelled g = at g.value where
-  at : (o : Option WrittenNumber) → given_pair.spell (g.path, o) ≡ spell_given (record { path = g.path; value = o })
-  at None = refl
-  at (Some x) = refl
-
 given_seen : (g : WrittenGiven) → see_pair (g.path, g.value) ≡ see_given g
-given_seen g = at g.value where
-  at : (o : Option WrittenNumber) → see_pair (g.path, o) ≡ see_given (record { path = g.path; value = o })
-  at None = refl
-  at (Some x) = refl
+given_seen g = elim g.value as (λ x. see_pair (g.path, x) ≡ see_given (record { path = g.path; value = x })) [ None ↦ refl | Some x ↦ refl ]
 
 given_rule : {m : Aspect} {room : ℕ} → Rule m room given_form see_given given_at
 unfolding given_at given_value_at
 given_rule =
-    recast_rule {g = given_pair} {see = see_pair} spell_given see_given (λ p. record { path = p.0; value = p.1 }) (λ g. (g.path, g.value)) (λ p. refl) given_spelled given_seen
+    recast_rule {g = given_pair} {see = see_pair} spell_given see_given (λ p. record { path = p.0; value = p.1 }) (λ g. (g.path, g.value)) (λ p. refl) (λ g. refl) given_seen
     (with_option_rule (is_mark marks.Equal) None (λ p v. record { path = p; value = v }) (λ x rest. refl) (λ p o s. path_stops p o (meets_other (kinds.Mark marks.Equal) (kinds.Mark marks.Dot) o refl s)) path_rule number_value_rule)
 
 value_stops : (x : WrittenNumber) (o : Option Symbol) → meets (is_mark marks.Slash) o ≡ false → some_value_form.Stops x o
@@ -266,24 +249,16 @@ parts_rule =
 abbrev from_compute : WrittenCompute → Parts
 from_compute c = (c.name, (c.givens, (c.wants, tt)))
 
-compute_spelled : (c : WrittenCompute) → parts_form.spell (from_compute c) ≡ spell_compute c
-compute_spelled c = at c.givens where
-  at : (o : Option (OneOrMore WrittenGiven)) → parts_form.spell (c.name, (o, (c.wants, tt))) ≡ spell_compute (record { name = c.name; givens = o; wants = c.wants })
-  at None = refl
-  at (Some gs) = refl
-
 compute_seen : (c : WrittenCompute) → see_all (from_compute c) ≡ see_compute c
-compute_seen c = at c.givens where
-  at : (o : Option (OneOrMore WrittenGiven)) → see_all (c.name, (o, (c.wants, tt))) ≡ see_compute (record { name = c.name; givens = o; wants = c.wants })
-  at None = refl
-  at (Some gs) = refl
+compute_seen c =
+    elim c.givens as (λ gs. see_all (c.name, (gs, (c.wants, tt))) ≡ see_compute (record { name = c.name; givens = gs; wants = c.wants })) [ None ↦ refl | Some gs ↦ refl ]
 
 abbrev pub compute_form : Form WrittenCompute
 compute_form = recast parts_form spell_compute from_compute
 
 pub compute_rule : {m : Aspect} {room : ℕ} → Rule m room compute_form see_compute compute_at
 compute_rule =
-    recast_rule {g = parts_form} {see = see_all} spell_compute see_compute (λ p. record { name = p.0; givens = p.1.0; wants = p.1.1.0 }) from_compute (λ p. refl) compute_spelled compute_seen parts_rule
+    recast_rule {g = parts_form} {see = see_all} spell_compute see_compute (λ p. record { name = p.0; givens = p.1.0; wants = p.1.1.0 }) from_compute (λ p. refl) (λ c. refl) compute_seen parts_rule
 
 pub free_compute : Free compute_form
 free_compute =

@@ -1,30 +1,29 @@
 -- The rule of the concept.
-use Rattle.std.proofs.Common.{◌≡◌, ℕ, suc, ◌≤◌, true, List, [], ◌∷◌, ◌++◌, map, Option, Some, None, refl, arith}
+use Rattle.std.proofs.Common.{◌≡◌, ℕ, suc, ◌≤◌, List, [], ◌∷◌, map, Option, Some, None, refl, arith}
 use Rattle.std.specs.Prelude.{All}
 use Rattle.std.proofs.lemmas.List.Elements.{All-nil, All-cons, All-head, All-tail}
 use Rattle.utopist_lexer.specs.declared.word.Word.TheVariants as words
 use Rattle.utopist_lexer.specs.declared.mark.Mark.TheVariants as marks
 use Rattle.utopist_lexer.specs.declared.token.Kind.TheVariants as kinds
 use Rattle.utopist_syntax.specs.Named.{Named}
-use Rattle.utopist_syntax.specs.FileTree.{ItemTree, ConceptTree}
-use Rattle.utopist_parser.specs.Symbols.{Symbol, mark}
-use Rattle.utopist_parser.specs.steps.Steps.{next}
+use Rattle.utopist_syntax.specs.FileTree.{ConceptTree}
+use Rattle.utopist_parser.specs.Symbols.{mark}
 use Rattle.utopist_parser.specs.steps.Single.{is_word}
 use Rattle.utopist_parser.specs.Written.{OneOrMore}
 use Rattle.utopist_parser.specs.WrittenFile.{WrittenItem, WrittenConcept}
 use Rattle.utopist_parser.specs.ExprTree.{all_of}
-use Rattle.utopist_parser.specs.FileSymbols.{spell_parents, spell_concept}
-use Rattle.utopist_parser.specs.FileSeen.{all_if_any, see_item, see_concept}
+use Rattle.utopist_parser.specs.FileSymbols.{spell_concept}
+use Rattle.utopist_parser.specs.FileSeen.{see_item, see_concept}
 use Rattle.utopist_parser.specs.FileNesting.{IsItem, IsConcept}
 use Rattle.utopist_parser.specs.steps.ReadingFile.{some_parents_at, parents_at, begins_item, items_at, concept_at}
 use Rattle.utopist_parser.proofs.StepLaws.{Form, Aspect}
 use Rattle.utopist_parser.proofs.Sequence.{both}
-use Rattle.utopist_parser.proofs.Recast.{recast, reform, reform_keeps}
+use Rattle.utopist_parser.proofs.Recast.{recast, reform_keeps}
 use Rattle.utopist_parser.proofs.Repeat.{FitsAll, repeated, last_stops}
 use Rattle.utopist_parser.proofs.Singles.{after, name_form}
 use Rattle.utopist_parser.proofs.Rules.{Rule, Any, fitting_by, name_rule, after_word, after_mark, stop, stop_rule, then_rule, repeat_rule, recast_rule, see_optional, optional, optional_rule}
 use Rattle.utopist_parser.proofs.PathRules.{names_form, names_rule}
-use Rattle.utopist_parser.proofs.Free.{Free, free_after, free_optional, free_recast}
+use Rattle.utopist_parser.proofs.Free.{Free, free_after, free_optional}
 use Rattle.utopist_parser.proofs.ItemRules.{free_names, names_stop, item_form, item_grows, item_rule, item_begins}
 
 -- ---- parents
@@ -98,17 +97,9 @@ parts_rule =
 abbrev from_concept : WrittenConcept → Parts
 from_concept c = (c.name, (c.parents, (c.items, tt)))
 
-concept_spelled : (c : WrittenConcept) → parts_form.spell (from_concept c) ≡ spell_concept c
-concept_spelled c = at c.parents where
-  at : (o : Option (OneOrMore Named)) → parts_form.spell (c.name, (o, (c.items, tt))) ≡ spell_concept (record { name = c.name; parents = o; items = c.items })
-  at None = refl
-  at (Some ns) = refl
-
 concept_seen : (c : WrittenConcept) → see_parts (from_concept c) ≡ see_concept c
-concept_seen c = at c.parents where
-  at : (o : Option (OneOrMore Named)) → see_parts (c.name, (o, (c.items, tt))) ≡ see_concept (record { name = c.name; parents = o; items = c.items })
-  at None = refl
-  at (Some ns) = refl
+concept_seen c =
+    elim c.parents as (λ ns. see_parts (c.name, (ns, (c.items, tt))) ≡ see_concept (record { name = c.name; parents = ns; items = c.items })) [ None ↦ refl | Some ns ↦ refl ]
 
 pub concept_grows : (c : WrittenConcept) (m M : ℕ) → m ≤ M → IsConcept m c → IsConcept M c
 concept_grows c m M h i = at c.items i where
@@ -130,7 +121,7 @@ concept_form = record { spell = spell_concept; Fits = λ c M. IsConcept (suc M) 
 
 pub concept_rule : {m : Aspect} {room : ℕ} → Rule m room concept_form see_concept concept_at
 concept_rule {m} {room} =
-    let r = recast_rule {g = parts_form} {see = see_parts} spell_concept see_concept (λ p. record { name = p.0; parents = p.1.0; items = p.1.1.0 }) from_concept (λ p. refl) concept_spelled concept_seen parts_rule in
+    let r = recast_rule {g = parts_form} {see = see_parts} spell_concept see_concept (λ p. record { name = p.0; parents = p.1.0; items = p.1.1.0 }) from_concept (λ p. refl) (λ c. refl) concept_seen parts_rule in
     record {
       keeps = reform_keeps (recast parts_form spell_concept from_concept) see_concept (λ c M. IsConcept (suc M) c) concept_grows_in (λ c o. Unit {0}) to_fits from_fits (λ c o s. tt) (λ c o s. tt) r.enters m concept_at room r.keeps;
       some = r.some;

@@ -1,15 +1,14 @@
 -- Expressions: what stops each, and how deep each is nested at least.
-use Rattle.std.proofs.Common.{◌≡◌, ℕ, suc, ◌≤◌, max, Bool, true, false, List, [], ◌∷◌, Option, Some, None, refl, arith}
+use Rattle.std.proofs.Common.{◌≡◌, ◌≤◌, false, Option, None, arith}
 use Rattle.utopist_lexer.specs.declared.mark.Mark.TheVariants as marks
 use Rattle.utopist_parser.specs.declared.breadth.Breadth.{Breadth}
 use Rattle.utopist_parser.specs.declared.breadth.Breadth.TheVariants as breadth
-use Rattle.utopist_parser.specs.Symbols.{Symbol, mark}
+use Rattle.utopist_parser.specs.Symbols.{Symbol}
 use Rattle.utopist_parser.specs.steps.Steps.{meets}
 use Rattle.utopist_parser.specs.steps.Single.{is_mark}
-use Rattle.utopist_parser.specs.Written.{Sign, plus, minus, Scale, times, over, Expression, choice, plain, Chain, one_term, add, Term, one_factor, mul, Factor, negated, literal, variable, round, call, loop, Further, no_more, and_then}
-use Rattle.utopist_parser.specs.ExprSymbols.{sign_mark, scale_mark}
+use Rattle.utopist_parser.specs.Written.{Expression, choice, plain, Chain, one_term, add, Term, one_factor, mul, Factor, negated, literal, variable, round, call, loop}
 use Rattle.utopist_parser.specs.ExprTree.{see_expr, see_chain, see_term, see_factor}
-use Rattle.utopist_parser.specs.Nesting.{nest_expr, nest_chain, nest_term, nest_factor, nest_exprs}
+use Rattle.utopist_parser.specs.Nesting.{nest_expr, nest_chain, nest_term, nest_factor}
 use Rattle.utopist_parser.specs.Arithmetic.{IsArithExpr, IsArith, IsArithTerm, IsArithFactor}
 use Rattle.utopist_parser.specs.steps.ReadingExpr.{Nested, sign_of, scale_of}
 use Rattle.utopist_parser.proofs.PathRules.{path_form, path_stops}

@@ -1,31 +1,29 @@
 -- The rules of all levels of expressions, at each room.
-use Rattle.std.proofs.Common.{◌≡◌, ℕ, zero, suc, ◌≤◌, max, Bool, true, false, List, [], ◌∷◌, ◌++◌, drop, Option, Some, None, Err, refl, sym, ap, subst, ◌∙◌, append_assoc, arith, inl, inr}
+use Rattle.std.proofs.Common.{◌≡◌, ℕ, zero, suc, ◌≤◌, true, false, List, ◌∷◌, ◌++◌, drop, Option, refl, sym, ap, subst, append_assoc, arith, inl, inr}
 use Rattle.std.specs.Prelude.{◌⊎◌}
 use Rattle.body_lang.specs.declared.cmp.Cmp.{Cmp}
 use Rattle.body_lang.specs.declared.cmp.Cmp.TheVariants as cmps
 use Rattle.body_lang.specs.declared.loop_kind.LoopKind.TheVariants as loops
 use Rattle.utopist_lexer.specs.declared.word.Word.TheVariants as words
-use Rattle.utopist_lexer.specs.declared.mark.Mark.TheVariants as marks
 use Rattle.utopist_lexer.specs.declared.token.Kind.TheVariants as kinds
 use Rattle.utopist_parser.specs.declared.breadth.Breadth.{Breadth}
 use Rattle.utopist_parser.specs.declared.breadth.Breadth.TheVariants as breadth
 use Rattle.utopist_parser.specs.Symbols.{Symbol, mark}
-use Rattle.utopist_parser.specs.steps.Steps.{StepOf, deep, next, meets, choose_at, deeper_at}
+use Rattle.utopist_parser.specs.steps.Steps.{StepOf, next, meets, choose_at, deeper_at}
 use Rattle.utopist_parser.specs.steps.Single.{is_word}
-use Rattle.utopist_parser.specs.Written.{Sign, plus, minus, Scale, times, over, Expression, choice, plain, Chain, one_term, add, Term, one_factor, mul, Factor, negated, literal, variable, round, call, loop}
+use Rattle.utopist_parser.specs.Written.{Expression, choice, plain, Chain, one_term, add, Term, one_factor, mul, Factor, negated, literal, variable, round, call, loop}
 use Rattle.utopist_parser.specs.ExprSymbols.{sign_mark, scale_mark, spell_expr, spell_chain, spell_term, spell_factor}
-use Rattle.utopist_parser.specs.Nesting.{nest_expr, nest_chain}
-use Rattle.utopist_parser.specs.steps.ReadingExpr.{Nested, sign_of, scale_of, group_at, choice_step, factor_step, levels_within, factor_at, term_at, chain_at, expr_at}
-use Rattle.utopist_parser.proofs.StepLaws.{Form, AgainAt, Aspect, again_only, all_laws, Keeps, Fitting}
-use Rattle.utopist_parser.proofs.Recast.{recast, reform, reform_keeps, same_keeps}
+use Rattle.utopist_parser.specs.steps.ReadingExpr.{Nested, sign_of, scale_of, group_at, choice_step, factor_step, factor_at, term_at, chain_at, expr_at}
+use Rattle.utopist_parser.proofs.StepLaws.{Form, AgainAt, Aspect, again_only, all_laws, Fitting}
+use Rattle.utopist_parser.proofs.Recast.{recast, reform_keeps, same_keeps}
 use Rattle.utopist_parser.proofs.Choice.{either, see_either}
-use Rattle.utopist_parser.proofs.Levels.{level, below, IfRoom, below_none, below_keeps}
-use Rattle.utopist_parser.proofs.Groups.{Operand, group_keeps}
+use Rattle.utopist_parser.proofs.Levels.{below, IfRoom, below_keeps}
+use Rattle.utopist_parser.proofs.Groups.{Grouping, part_form, operand_form, group_form, Operand, group_keeps}
 use Rattle.utopist_parser.proofs.Singles.{fixed_is}
 use Rattle.utopist_parser.proofs.Rules.{Rule, fitting_by, recast_rule}
 use Rattle.utopist_parser.proofs.ExprFacts.{seen_factor, seen_term, seen_chain, seen_expr, factor_nest, term_nest, chain_nest, expr_nest, AllowedFactor, AllowedTerm, AllowedChain, AllowedExpr, FactorStops, TermStops, ChainStops, ExprStops}
-use Rattle.utopist_parser.proofs.OperatorGroups.{scales, signs, factor_allows, term_allows}
-use Rattle.utopist_parser.proofs.Lows.{factor_form, term_form, chain_form, expr_form, low_factor_form, low_term_form, low_factor, low_term, low_chain, low_expr, LowRules, RoundsOf, IsAll, gate, begins_in, gated_rule}
+use Rattle.utopist_parser.proofs.OperatorGroups.{scales, signs}
+use Rattle.utopist_parser.proofs.Lows.{factor_form, term_form, chain_form, expr_form, low_factor_form, low_factor, low_term, low_chain, low_expr, LowRules, RoundsOf, gate, begins_in, gated_rule}
 use Rattle.utopist_parser.proofs.Productions.{choice_form, seen_choice, choice_rule}
 use Rattle.utopist_parser.proofs.Factors.{zero_expr, zero_fits, factor_rule}
 
@@ -144,32 +142,28 @@ pub record LevelRules (m : Aspect) (room : ℕ) (b : Breadth) : Type 0 where
 same_rule : {X V : Type 0} {m : Aspect} {room : ℕ} {g : Form X} {see : X → V} {f : StepOf V} (h : StepOf V) → ((M : ℕ) (ts : List Symbol) → f M ts ≡ h M ts) → Rule m room g see f → Rule m room g see h
 same_rule {m = m} {room = room} {g = g} {see = see} {f = f} h same r = record { keeps = same_keeps g see f h same m room r.keeps; some = r.some; fits = r.fits; enters = r.enters }
 
--- what is known of operands
-factor_none : (b : Breadth) → AgainAt (low_factor_form b) seen_factor (low_factor b) zero
-factor_none b = record { again = λ x h rest s. absurd (let n = factor_nest x in let i = h.0 in omega (arith, n, i)) }
+-- what is known of operands, and of groups
+module _ {S A O : Type 0} (b : Breadth) (g : Grouping S A O) (low : StepOf Nested) (nest : (x : S) → 1 ≤ (g.see_part x).1) (low_rule : (m : Aspect) (room : ℕ) → LowRules m room b → Rule m room (operand_form g) g.see_part low) where
+  operand_none : AgainAt (operand_form g) g.see_part low zero
+  operand_none = record { again = λ x h rest s. absurd (let n = nest x in let i = h.0 in omega (arith, n, i)) }
 
-factor_each : (b : Breadth) → RoundsOf all_laws b → (M : ℕ) → AgainAt (low_factor_form b) seen_factor (low_factor b) M
-factor_each b rounds zero = factor_none b
-factor_each b rounds (suc M) = (rounds M).factor.keeps
+  operand_each : RoundsOf all_laws b → (M : ℕ) → AgainAt (operand_form g) g.see_part low M
+  operand_each rounds zero = operand_none
+  operand_each rounds (suc M) = (low_rule again_only (suc M) (rounds M)).keeps
 
-factor_operand : (b : Breadth) (m : Aspect) (room : ℕ) → RoundsOf m b → IfRoom room (LowRules m room b) → Operand m (scales b) (low_factor b) room
-factor_operand b again_only zero rounds low = factor_none b
-factor_operand b again_only (suc room) rounds low = low.factor.keeps
-factor_operand b all_laws zero rounds low = (factor_each b rounds, λ r e. absurd (omega (arith, e)))
-factor_operand b all_laws (suc room) rounds low = (factor_each b rounds, λ r e. low.factor.keeps)
+  operand : (m : Aspect) (room : ℕ) → RoundsOf m b → IfRoom room (LowRules m room b) → Operand m g low room
+  operand again_only zero rounds lows = operand_none
+  operand again_only (suc room) rounds lows = (low_rule again_only (suc room) lows).keeps
+  operand all_laws zero rounds lows = (operand_each rounds, λ r e. absurd (omega (arith, e)))
+  operand all_laws (suc room) rounds lows = (operand_each rounds, λ r e. (low_rule all_laws (suc room) lows).keeps)
 
-term_none : (b : Breadth) → AgainAt (low_term_form b) seen_term (low_term b) zero
-term_none b = record { again = λ x h rest s. absurd (let n = term_nest x in let i = h.0 in omega (arith, n, i)) }
-
-term_each : (b : Breadth) → RoundsOf all_laws b → (M : ℕ) → AgainAt (low_term_form b) seen_term (low_term b) M
-term_each b rounds zero = term_none b
-term_each b rounds (suc M) = (rounds M).term.keeps
-
-term_operand : (b : Breadth) (m : Aspect) (room : ℕ) → RoundsOf m b → IfRoom room (LowRules m room b) → Operand m (signs b) (low_term b) room
-term_operand b again_only zero rounds low = term_none b
-term_operand b again_only (suc room) rounds low = low.term.keeps
-term_operand b all_laws zero rounds low = (term_each b rounds, λ r e. absurd (omega (arith, e)))
-term_operand b all_laws (suc room) rounds low = (term_each b rounds, λ r e. low.term.keeps)
+  group_rule : {m : Aspect} {room : ℕ} (first : StepOf Nested) → RoundsOf m b → IfRoom room (LowRules m room b) → Rule m room (part_form g) g.see_part first → Rule m room (group_form g) g.see (group_at g.find first low)
+  group_rule {m} {room} first rounds lows r = record {
+    keeps = group_keeps m g first low room r.keeps (operand m room rounds lows);
+    some = g.one r.some;
+    fits = fitting_by m (part_form g) (group_form g) r.some (g.one r.some) room (λ h. (subst (λ (v : Nested). v.1 ≤ suc room) (sym (g.see_one r.some)) h.0, g.allow_one r.some h.1)) r.fits;
+    enters = λ o. tt;
+  }
 
 module _ (b : Breadth) (m : Aspect) (room : ℕ) (rounds : RoundsOf m b) (low : IfRoom room (LowRules m room b)) where
   factors : Rule m room (factor_form b) seen_factor (factor_at b)
@@ -180,23 +174,13 @@ module _ (b : Breadth) (m : Aspect) (room : ℕ) (rounds : RoundsOf m b) (low : 
   unfolding factor_at term_at
   terms =
       same_rule {g = term_form b} {f = group_at scale_of (factor_at b) (low_factor b)} (term_at b) (λ M ts. refl)
-      (record {
-        keeps = group_keeps m (scales b) (factor_at b) (low_factor b) room factors.keeps (factor_operand b m room rounds low);
-        some = one_factor factors.some;
-        fits = fitting_by m (factor_form b) (term_form b) factors.some (one_factor factors.some) room (λ h. (h.0, factor_allows b factors.some h.1)) factors.fits;
-        enters = λ o. tt;
-      })
+      (group_rule b (scales b) (low_factor b) factor_nest (λ m room l. l.factor) (factor_at b) rounds low factors)
 
   chains : Rule m room (chain_form b) seen_chain (chain_at b)
   unfolding term_at chain_at
   chains =
       same_rule {g = chain_form b} {f = group_at sign_of (term_at b) (low_term b)} (chain_at b) (λ M ts. refl)
-      (record {
-        keeps = group_keeps m (signs b) (term_at b) (low_term b) room terms.keeps (term_operand b m room rounds low);
-        some = one_term terms.some;
-        fits = fitting_by m (term_form b) (chain_form b) terms.some (one_term terms.some) room (λ h. (h.0, term_allows b terms.some h.1)) terms.fits;
-        enters = λ o. tt;
-      })
+      (group_rule b (signs b) (low_term b) term_nest (λ m room l. l.term) (term_at b) rounds low terms)
 
   exprs : Rule m room (expr_form b) seen_expr (expr_at b)
   unfolding chain_at expr_at

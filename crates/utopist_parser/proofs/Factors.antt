@@ -1,5 +1,5 @@
 -- The rule of a factor: it is one of its forms.
-use Rattle.std.proofs.Common.{◌≡◌, ℕ, zero, suc, ◌≤◌, max, Bool, true, false, List, [], ◌∷◌, ◌++◌, map, drop, Option, Some, None, refl, sym, ap, subst, ◌∙◌, append_assoc, arith, inl, inr}
+use Rattle.std.proofs.Common.{◌≡◌, ℕ, zero, suc, ◌≤◌, max, Bool, true, false, List, [], ◌∷◌, ◌++◌, map, drop, Option, Some, refl, sym, ap, subst, ◌∙◌, append_assoc, arith, inl, inr}
 use Rattle.std.specs.Prelude.{pos, negsuc, ◌⊎◌, ◌||◌}
 use Rattle.std.specs.List.{flat_map}
 use Rattle.priz_base.specs.declared.place.Place.{Place}
@@ -14,16 +14,15 @@ use Rattle.utopist_syntax.specs.ExprTree.{ExprTrees}
 use Rattle.utopist_parser.specs.declared.breadth.Breadth.{Breadth}
 use Rattle.utopist_parser.specs.declared.breadth.Breadth.TheVariants as breadth
 use Rattle.utopist_parser.specs.Symbols.{Symbol, name, sub, fixed, mark}
-use Rattle.utopist_parser.specs.steps.Steps.{StepOf, next, meets, choose_at, deeper_at}
+use Rattle.utopist_parser.specs.steps.Steps.{StepOf, next, meets, choose_at}
 use Rattle.utopist_parser.specs.steps.Single.{is_kind, is_word, is_mark, is_sub}
-use Rattle.utopist_parser.specs.Written.{OneOrMore, WrittenPath, Expression, plain, Chain, one_term, Term, one_factor, Factor, negated, literal, variable, round, call, loop, Further, no_more, and_then}
-use Rattle.utopist_parser.specs.ExprSymbols.{loop_word, separated, behind, spell_path, spell_expr, spell_factor, spell_exprs}
-use Rattle.utopist_parser.specs.ExprTree.{all_of, see_expr, see_factor, see_exprs}
-use Rattle.utopist_parser.specs.Nesting.{nest_expr, nest_factor, nest_exprs}
-use Rattle.utopist_parser.specs.Arithmetic.{IsArithFactor}
+use Rattle.utopist_parser.specs.Written.{OneOrMore, WrittenPath, Expression, plain, one_term, one_factor, Factor, negated, literal, variable, round, call, loop, Further, no_more, and_then}
+use Rattle.utopist_parser.specs.ExprSymbols.{loop_word, behind, spell_expr, spell_factor, spell_exprs}
+use Rattle.utopist_parser.specs.ExprTree.{all_of, see_expr, see_exprs}
+use Rattle.utopist_parser.specs.Nesting.{nest_expr, nest_exprs}
 use Rattle.utopist_parser.specs.steps.ReadingExpr.{Nested, trees_in, most, literal_step, variable_step, negated_step, round_step, call_step, loop_step, factor_step}
 use Rattle.utopist_parser.proofs.StepLaws.{Form, Aspect}
-use Rattle.utopist_parser.proofs.Recast.{recast, reform, reform_keeps}
+use Rattle.utopist_parser.proofs.Recast.{recast, reform_keeps}
 use Rattle.utopist_parser.proofs.Choice.{either, see_either}
 use Rattle.utopist_parser.proofs.Repeat.{FitsAll}
 use Rattle.utopist_parser.proofs.Levels.{IfRoom}
@@ -31,7 +30,7 @@ use Rattle.utopist_parser.proofs.Singles.{fixed_is, name_form, number_form}
 use Rattle.utopist_parser.proofs.Rules.{Rule, fitting_by, next_form, number_rule, map_rule, either_rule, recast_rule}
 use Rattle.utopist_parser.proofs.PathRules.{path_form, path_rule}
 use Rattle.utopist_parser.proofs.ExprFacts.{seen_factor, seen_expr, factor_nest, expr_nest, InBreadth, FactorStops}
-use Rattle.utopist_parser.proofs.Lows.{factor_form, low_expr_form, low_factor, low_expr, LowRules, RoundsOf, IsAll, gate, deep_rule, gated_rule}
+use Rattle.utopist_parser.proofs.Lows.{factor_form, low_expr_form, low_factor, low_expr, LowRules, RoundsOf, gate, deep_rule, gated_rule}
 use Rattle.utopist_parser.proofs.Productions.{kind_begins, negated_form, round_form, call_form, loop_form, seen_negated, seen_round, seen_call, seen_loop, negated_rule, round_rule, call_rule, loop_rule}
 
 -- ---- arguments as a list

@@ -1,11 +1,10 @@
 -- The rule of the file.
-use Rattle.std.proofs.Common.{◌≡◌, ℕ, suc, ◌≤◌, List, [], ◌∷◌, ◌++◌, map, Option, refl, arith}
+use Rattle.std.proofs.Common.{ℕ, suc, ◌≤◌, List, [], ◌∷◌, ◌++◌, map, refl, arith}
 use Rattle.std.specs.Prelude.{All}
 use Rattle.std.proofs.lemmas.List.Elements.{All-nil, All-cons, All-head, All-tail}
 use Rattle.utopist_lexer.specs.declared.word.Word.TheVariants as words
 use Rattle.utopist_lexer.specs.declared.token.Kind.TheVariants as kinds
-use Rattle.utopist_syntax.specs.declared.compute.Compute.{Compute}
-use Rattle.utopist_syntax.specs.FileTree.{ConceptTree, FileTree}
+use Rattle.utopist_syntax.specs.FileTree.{FileTree}
 use Rattle.utopist_parser.specs.Symbols.{Symbol}
 use Rattle.utopist_parser.specs.steps.Steps.{next}
 use Rattle.utopist_parser.specs.steps.Single.{is_word}
@@ -16,11 +15,10 @@ use Rattle.utopist_parser.specs.FileNesting.{IsConcept, IsFile}
 use Rattle.utopist_parser.specs.steps.ReadingFile.{concepts_at, computes_at, file_at}
 use Rattle.utopist_parser.proofs.StepLaws.{Form, Aspect}
 use Rattle.utopist_parser.proofs.Sequence.{both}
-use Rattle.utopist_parser.proofs.Recast.{recast, reform, reform_keeps}
+use Rattle.utopist_parser.proofs.Recast.{recast, reform_keeps}
 use Rattle.utopist_parser.proofs.Repeat.{FitsAll, repeated, last_stops}
 use Rattle.utopist_parser.proofs.Singles.{after}
 use Rattle.utopist_parser.proofs.Rules.{Rule, Any, fitting_by, after_end, done, done_rule, then_rule, repeat_rule, recast_rule}
-use Rattle.utopist_parser.proofs.Free.{Free}
 use Rattle.utopist_parser.proofs.ConceptRules.{concept_form, concept_grows, concept_rule}
 use Rattle.utopist_parser.proofs.ComputeRules.{compute_form, compute_rule, free_compute}
 

@@ -5,12 +5,11 @@ use Rattle.utopist_lexer.specs.declared.mark.Mark.{Mark}
 use Rattle.utopist_lexer.specs.declared.token.Kind.{Kind}
 use Rattle.utopist_parser.specs.Symbols.{Symbol}
 use Rattle.utopist_parser.specs.steps.Single.{is_mark}
-use Rattle.utopist_parser.specs.Written.{OneOrMore}
 use Rattle.utopist_parser.proofs.StepLaws.{Form}
 use Rattle.utopist_parser.proofs.Sequence.{both}
 use Rattle.utopist_parser.proofs.Choice.{either}
 use Rattle.utopist_parser.proofs.Recast.{recast}
-use Rattle.utopist_parser.proofs.Repeat.{FitsAll, repeated}
+use Rattle.utopist_parser.proofs.Repeat.{FitsAll}
 use Rattle.utopist_parser.proofs.Singles.{after}
 use Rattle.utopist_parser.proofs.Rules.{stop, next_form, separated_form, optional}
 

@@ -4,10 +4,10 @@ use Rattle.std.specs.Prelude.{nat_le, ◌⊎◌}
 use Rattle.std.proofs.lemmas.List.{append-nil}
 use Rattle.body_lang.specs.declared.op.Op.{Op}
 use Rattle.utopist_parser.specs.Symbols.{Symbol}
-use Rattle.utopist_parser.specs.steps.Steps.{Why, expected, deep, Miss, Reading, ReadOf, StepOf, on_ok, next}
+use Rattle.utopist_parser.specs.steps.Steps.{Why, Unexpected, TooDeep, Miss, Reading, ReadOf, StepOf, on_ok, next}
 use Rattle.utopist_parser.specs.steps.ReadingExpr.{Nested, op_over, one_more, more_at, group_at}
-use Rattle.utopist_parser.proofs.StepLaws.{Reaches, reaches_up, AtHead, at_head, Form, Stuck, Further, Took, Blames, AgainAt, Laws, Aspect, again_only, all_laws, Keeps, failed_is, ok_is, then_ok, then_err}
-use Rattle.utopist_parser.proofs.Levels.{level, below, IfRoom, Rounds}
+use Rattle.utopist_parser.proofs.StepLaws.{reaches_up, AtHead, at_head, Form, Stuck, Further, Took, Blames, AgainAt, Laws, Aspect, again_only, all_laws, Keeps, failed_is, ok_is, then_ok, then_err}
+use Rattle.utopist_parser.proofs.Levels.{level, below}
 
 -- a kind of group: its operators, what one part is, and what the whole is
 pub record Grouping (S A O : Type 0) : Type 1 where
@@ -127,7 +127,7 @@ done x = Ok x
 one_more_ok : (o : Option Op) (room : ℕ) (v : Nested) (ts : List Symbol) (go_on : Op → Reading Nested) (y : Nested × List Symbol) → one_more o room v ts go_on ≡ Ok y →
     ((o ≡ None) × (done (v, ts) ≡ Ok y)) ⊎ ((p : Op) × (o ≡ Some p) × (v.1 ≤ room) × (go_on p ≡ Ok y))
 one_more_ok None room v ts go_on y e = inl (refl, e)
-one_more_ok (Some p) room v ts go_on y e = let h = guard_ok v.1 room (go_on p) (deep, length ts) y e in inr (p, refl, h.0, h.1)
+one_more_ok (Some p) room v ts go_on y e = let h = guard_ok v.1 room (go_on p) (TooDeep, length ts) y e in inr (p, refl, h.0, h.1)
 
 guard_err : (a b : ℕ) (x : Reading Nested) (d e : Miss) → cond (nat_le a b) x (Err d) ≡ Err e → ((b < a) × (d ≡ e)) ⊎ ((a ≤ b) × (x ≡ Err e))
 guard_err a b x d e h = go (nat_le a b) refl h where
@@ -136,9 +136,9 @@ guard_err a b x d e h = go (nat_le a b) refl h where
   go false i h = inl (grind (arith, i), failed_is Nested d e h)
 
 one_more_err : (o : Option Op) (room : ℕ) (v : Nested) (ts : List Symbol) (go_on : Op → Reading Nested) (e : Miss) → one_more o room v ts go_on ≡ Err e →
-    (p : Op) × (o ≡ Some p) × (((room < v.1) × ((deep, length ts) ≡ e)) ⊎ ((v.1 ≤ room) × (go_on p ≡ Err e)))
+    (p : Op) × (o ≡ Some p) × (((room < v.1) × ((TooDeep, length ts) ≡ e)) ⊎ ((v.1 ≤ room) × (go_on p ≡ Err e)))
 one_more_err None room v ts go_on e h = absurd cc
-one_more_err (Some p) room v ts go_on e h = (p, refl, guard_err v.1 room (go_on p) (deep, length ts) e h)
+one_more_err (Some p) room v ts go_on e h = (p, refl, guard_err v.1 room (go_on p) (TooDeep, length ts) e h)
 
 module _ {S A O : Type 0} (g : Grouping S A O) where
   at_sign : (ts : List Symbol) (p : Op) → g.find (next ts) ≡ Some p → (o : O) × (cs : List Symbol) × (ts ≡ g.sign o ∷ cs) × (g.op_of o ≡ p)
@@ -181,7 +181,7 @@ module _ {S A O : Type 0} (g : Grouping S A O) (first operand : StepOf Nested) (
   more_take : (left : ℕ) (a : A) (ts : List Symbol) (v : Nested × List Symbol) → (g.see a).1 ≤ suc room → g.Allowed a → g.LastStops a (next ts) → more_at g.find (operand room) room left (g.see a) ts ≡ Ok v → Whole (g.spell a ++ ts) v
   unfolding more_at
   more_take zero a ts v h n s e =
-      elim (one_more_ok (g.find (next ts)) room (g.see a) ts (λ o. Err (deep, length ts)) v e) [
+      elim (one_more_ok (g.find (next ts)) room (g.see a) ts (λ o. Err (TooDeep, length ts)) v e) [
         | inl y ↦ ends_here a ts v h n s y.0 y.1
         | inr m ↦ absurd (let z = m.3 in cc)
       ]
@@ -209,13 +209,13 @@ module _ {S A O : Type 0} (g : Grouping S A O) (first operand : StepOf Nested) (
 
   -- ---- where a reading fails
 
-  on_deep : (left M : ℕ) (a : A) (o : O) (more : List Symbol) → M < (g.see a).1 → more_at g.find (operand M) M left (g.see a) (g.sign o ∷ more) ≡ Err (deep, suc (length more))
+  on_deep : (left M : ℕ) (a : A) (o : O) (more : List Symbol) → M < (g.see a).1 → more_at g.find (operand M) M left (g.see a) (g.sign o ∷ more) ≡ Err (TooDeep, suc (length more))
   unfolding more_at
   on_deep zero M a o more h = rw (g.found o, le_false _ _ h) refl
   on_deep (suc left) M a o more h = rw (g.found o, le_false _ _ h) refl
 
   -- an operator for which there is no room
-  sign_stuck : (a : A) (o : O) → (g.see a).1 ≤ suc room → g.Allowed a → room < (g.see a).1 → Stuck Group room deep (g.spell a) (g.sign o)
+  sign_stuck : (a : A) (o : O) → (g.see a).1 ≤ suc room → g.Allowed a → room < (g.see a).1 → Stuck Group room TooDeep (g.spell a) (g.sign o)
   sign_stuck a o h n i = record {
     fails = λ M r more.
         let c = comes g first operand M (a_first.again M) (operand_again M) a (omega (arith, h, r), n) (g.sign o ∷ more) (g.sign_stops a o) in c.same ∙ on_deep c.left M a o more (omega (arith, i, r));
@@ -236,8 +236,8 @@ module _ {S A O : Type 0} (g : Grouping S A O) (first operand : StepOf Nested) (
   }
 
   part_further : (a : A) (o : O) → (g.see a).1 ≤ room → g.Allowed a → (why : Why) (front : List Symbol) (c : Symbol) → Further (operand_form g) why front c → Further (group_form g) why (g.spell a ++ (g.sign o ∷ front)) c
-  part_further a o h n expected front c f = tt
-  part_further a o h n deep front c f =
+  part_further a o h n Unexpected front c f = tt
+  part_further a o h n TooDeep front c f =
       let i = f.4.0 in (
         g.join a o f.0,
         f.1,
@@ -249,7 +249,7 @@ module _ {S A O : Type 0} (g : Grouping S A O) (first operand : StepOf Nested) (
   abbrev WholeBlames : List Symbol → Miss → Type 0
   WholeBlames ts e = Blames (group_form g) Group room ts e
 
-  deep_here : (a : A) (o : O) (ts cs : List Symbol) → (g.see a).1 ≤ suc room → g.Allowed a → room < (g.see a).1 → ts ≡ g.sign o ∷ cs → WholeBlames (g.spell a ++ ts) (deep, length ts)
+  deep_here : (a : A) (o : O) (ts cs : List Symbol) → (g.see a).1 ≤ suc room → g.Allowed a → room < (g.see a).1 → ts ≡ g.sign o ∷ cs → WholeBlames (g.spell a ++ ts) (TooDeep, length ts)
   deep_here a o ts cs h n i is = record {
     front = g.spell a;
     wrong = ts;
@@ -259,8 +259,8 @@ module _ {S A O : Type 0} (g : Grouping S A O) (first operand : StepOf Nested) (
     more = [];
     fits = (h, n);
     begins = sym (append-nil (g.spell a));
-    stuck = subst (λ l. AtHead l (Stuck Group room deep (g.spell a))) (sym is) (sign_stuck a o h n i);
-    further = subst (λ l. AtHead l (Further (group_form g) deep (g.spell a))) (sym is) (
+    stuck = subst (λ l. AtHead l (Stuck Group room TooDeep (g.spell a))) (sym is) (sign_stuck a o h n i);
+    further = subst (λ l. AtHead l (Further (group_form g) TooDeep (g.spell a))) (sym is) (
       g.join a o g.some_part,
       g.spell_part g.some_part,
       g.spell_join a o g.some_part,
@@ -286,7 +286,7 @@ module _ {S A O : Type 0} (g : Grouping S A O) (first operand : StepOf Nested) (
   more_blames : (left : ℕ) (a : A) (ts : List Symbol) (e : Miss) → room < left + (g.see a).1 → (g.see a).1 ≤ suc room → g.Allowed a → more_at g.find (operand room) room left (g.see a) ts ≡ Err e → WholeBlames (g.spell a ++ ts) e
   unfolding more_at
   more_blames zero a ts e k h n i =
-      let m = one_more_err (g.find (next ts)) room (g.see a) ts (λ o. Err (deep, length ts)) e i in
+      let m = one_more_err (g.find (next ts)) room (g.see a) ts (λ o. Err (TooDeep, length ts)) e i in
       let o = at_sign g ts m.0 m.1 in
       elim m.2 [
         | inl d ↦ subst (λ q. WholeBlames (g.spell a ++ ts) q) d.1 (deep_here a o.0 ts o.1 h n d.0 o.2)
@@ -325,8 +325,8 @@ module _ {S A O : Type 0} (g : Grouping S A O) (first operand : StepOf Nested) (
     further = at_head (Further (part_form g) e.0 b.front) (Further (group_form g) e.0 b.front) (first_further e.0) b.wrong b.further;
   } where
     first_further : (why : Why) (c : Symbol) → Further (part_form g) why b.front c → Further (group_form g) why b.front c
-    first_further expected c f = tt
-    first_further deep c f = (g.one f.0, f.1, g.spell_one f.0 ∙ f.2, f.3, (one_within g f.0 f.3 f.4.0, g.allow_one f.0 f.4.1))
+    first_further Unexpected c f = tt
+    first_further TooDeep c f = (g.one f.0, f.1, g.spell_one f.0 ∙ f.2, f.3, (one_within g f.0 f.3 f.4.0, g.allow_one f.0 f.4.1))
 
   group_blames : (ts : List Symbol) (e : Miss) → Group room ts ≡ Err e → WholeBlames ts e
   group_blames ts e h =

@@ -1,8 +1,8 @@
 -- Parts that nest: those that fit at a room are nested at most one more, and those one level below at most so deep.
-use Rattle.std.proofs.Common.{◌≡◌, ℕ, zero, suc, ◌≤◌, Bool, true, false, cond, List, [], ◌∷◌, ◌++◌, length, Option, Some, Ok, Err, refl, sym, ap, subst, ◌∙◌, arith, inl, inr}
+use Rattle.std.proofs.Common.{◌≡◌, ℕ, zero, suc, ◌≤◌, Bool, true, false, cond, List, [], ◌∷◌, ◌++◌, length, Option, Ok, Err, refl, sym, ap, subst, ◌∙◌, arith, inl, inr}
 use Rattle.std.specs.Prelude.{◌⊎◌}
 use Rattle.utopist_parser.specs.Symbols.{Symbol}
-use Rattle.utopist_parser.specs.steps.Steps.{Why, expected, deep, Miss, Reading, ReadOf, StepOf, next, meets, choose_at, deeper, deeper_at}
+use Rattle.utopist_parser.specs.steps.Steps.{Why, Unexpected, TooDeep, Miss, Reading, StepOf, next, meets, choose_at, deeper_at}
 use Rattle.utopist_parser.specs.steps.ReadingExpr.{Nested}
 use Rattle.utopist_parser.proofs.StepLaws.{Reaches, AtHead, at_head, Form, Stuck, Further, Took, Blames, AgainAt, Laws, Aspect, again_only, all_laws, Keeps, Fitting, failed_is, same_next}
 use Rattle.utopist_parser.proofs.Choice.{either, see_either, choose_keeps}
@@ -35,7 +35,7 @@ IfRoom (suc room) T = T
 -- ---- reading one level below
 
 module _ {X : Type 0} (spell : X → List Symbol) (see : X → Nested) (Allowed : X → Type 0) (Stops : X → Option Symbol → Type 0) (some_nest : (x : X) → 1 ≤ (see x).1)
-    (low f : StepOf Nested) (at_none : (ts : List Symbol) → low zero ts ≡ Err (deep, length ts)) (at_some : (room : ℕ) (ts : List Symbol) → low (suc room) ts ≡ f room ts) where
+    (low f : StepOf Nested) (at_none : (ts : List Symbol) → low zero ts ≡ Err (TooDeep, length ts)) (at_some : (room : ℕ) (ts : List Symbol) → low (suc room) ts ≡ f room ts) where
   abbrev high_form : Form X
   high_form = level spell see Allowed Stops
 
@@ -55,10 +55,10 @@ module _ {X : Type 0} (spell : X → List Symbol) (see : X → Nested) (Allowed 
   below_stuck : (room : ℕ) (why : Why) (front : List Symbol) (c : Symbol) → Stuck f room why front c → Stuck low (suc room) why front c
   below_stuck room why front c s = record { fails = λ M r more. on M why r more s } where
     on : (M : ℕ) (w : Why) → Reaches w (suc room) M → (more : List Symbol) → Stuck f room w front c → low M (front ++ (c ∷ more)) ≡ Err (w, suc (length more))
-    on zero expected r more t = absurd (omega (arith, r))
-    on zero deep r more t = absurd (omega (arith, r))
-    on (suc M) expected r more t = at_some M (front ++ (c ∷ more)) ∙ t.fails M (omega (arith, r)) more
-    on (suc M) deep r more t = at_some M (front ++ (c ∷ more)) ∙ t.fails M (omega (arith, r)) more
+    on zero Unexpected r more t = absurd (omega (arith, r))
+    on zero TooDeep r more t = absurd (omega (arith, r))
+    on (suc M) Unexpected r more t = at_some M (front ++ (c ∷ more)) ∙ t.fails M (omega (arith, r)) more
+    on (suc M) TooDeep r more t = at_some M (front ++ (c ∷ more)) ∙ t.fails M (omega (arith, r)) more
 
   below_laws : (room : ℕ) → Laws high_form see f room → Laws low_form see low (suc room)
   below_laws room a = record {
@@ -80,8 +80,8 @@ module _ {X : Type 0} (spell : X → List Symbol) (see : X → Nested) (Allowed 
         };
   } where
     same_further : (why : Why) (front : List Symbol) (c : Symbol) → Further high_form why front c → Further low_form why front c
-    same_further expected front c h = tt
-    same_further deep front c h = (h.0, h.1, h.2, suc h.3, h.4)
+    same_further Unexpected front c h = tt
+    same_further TooDeep front c h = (h.0, h.1, h.2, suc h.3, h.4)
 
   pub below_keeps : (m : Aspect) (room : ℕ) → Keeps m (level spell see Allowed Stops) see f room → Keeps m (below spell see Allowed Stops) see low (suc room)
   below_keeps again_only room a = below_some room a
@@ -108,8 +108,8 @@ module _ {X V : Type 0} (g : Form X) (see : X → V) (f : StepOf V) (none : (x :
   deeper_stuck : (room : ℕ) (why : Why) (front : List Symbol) (c : Symbol) → Stuck f (suc room) why front c → Stuck (deeper_at f) (suc room) why front c
   deeper_stuck room why front c s = record { fails = λ M r more. on M why r more s } where
     on : (M : ℕ) (w : Why) → Reaches w (suc room) M → (more : List Symbol) → Stuck f (suc room) w front c → deeper_at f M (front ++ (c ∷ more)) ≡ Err (w, suc (length more))
-    on zero expected r more t = absurd (omega (arith, r))
-    on zero deep r more t = absurd (omega (arith, r))
+    on zero Unexpected r more t = absurd (omega (arith, r))
+    on zero TooDeep r more t = absurd (omega (arith, r))
     on (suc M) w r more t = t.fails (suc M) r more
 
   deeper_laws : (room : ℕ) → Laws g see f (suc room) → Laws g see (deeper_at f) (suc room)
@@ -155,7 +155,7 @@ module _ {X Y V : Type 0} (g : Form X) (see_x : X → V) (d : Form Y) (see_y : Y
       choose_keeps g see_x d see_y begins (deeper_at f) k (λ x rest s. yes_x x rest) no_y (λ o e. enters_x o) (λ o e. enters_y o) m room a b
 
   -- no room: the first symbol is too deep
-  none_deep : (some : Y) → d.Fits some zero → (ts : List Symbol) → meets begins (next ts) ≡ true → Blames whole whole_at zero ts (deep, length ts)
+  none_deep : (some : Y) → d.Fits some zero → (ts : List Symbol) → meets begins (next ts) ≡ true → Blames whole whole_at zero ts (TooDeep, length ts)
   none_deep some fits [] e = absurd cc
   none_deep some fits (c ∷ cs) e = record {
     front = [];
@@ -170,7 +170,7 @@ module _ {X Y V : Type 0} (g : Form X) (see_x : X → V) (d : Form Y) (see_y : Y
     further = let o = opens c e in (inl o.0, o.1, o.2, o.3, o.4);
   } where
     failed : ℕ → Reading V
-    failed n = Err (deep, n)
+    failed n = Err (TooDeep, n)
 
   none_take : Laws d see_y k zero → (ts : List Symbol) (v : V × List Symbol) → whole_at zero ts ≡ Ok v → Took whole see_whole zero ts v
   none_take b ts v e = go (meets begins (next ts)) refl e where
@@ -185,11 +185,11 @@ module _ {X Y V : Type 0} (g : Form X) (see_x : X → V) (d : Form Y) (see_y : Y
     y_stuck front (c ∷ cs) why i s = record { fails = λ M r more. rw (subst (λ o. meets begins o ≡ false) (same_next front c cs more) i) (s.fails M r more) }
 
     y_further : (why : Why) (front : List Symbol) (c : Symbol) → Further d why front c → Further whole why front c
-    y_further expected front c u = tt
-    y_further deep front c u = (inr u.0, u.1, u.2, u.3, u.4)
+    y_further Unexpected front c u = tt
+    y_further TooDeep front c u = (inr u.0, u.1, u.2, u.3, u.4)
 
     go : (t : Bool) → meets begins (next ts) ≡ t → cond t (deeper_at f zero ts) (k zero ts) ≡ Err e → Blames whole whole_at zero ts e
-    go true i h = subst (λ q. Blames whole whole_at zero ts q) (failed_is V (deep, length ts) e h) (none_deep some fits ts i)
+    go true i h = subst (λ q. Blames whole whole_at zero ts q) (failed_is V (TooDeep, length ts) e h) (none_deep some fits ts i)
     go false i h =
         let u = b.blames ts e (enters_y _) h in
         record {

@@ -1,10 +1,9 @@
 -- {part} read part by part, as a loop does.
 use Rattle.std.proofs.Common.{◌≡◌, ℕ, zero, suc, ◌≤◌, ◌<◌, Bool, true, false, List, [], ◌∷◌, ◌++◌, length, Ok, Err, refl, sym, ap, ◌∙◌, append_assoc, arith}
-use Rattle.std.proofs.lemmas.List.{append-nil, length-map}
+use Rattle.std.proofs.lemmas.List.{append-nil}
 use Rattle.utopist_parser.specs.declared.parse_stop.ParseStop.{ParseStop}
 use Rattle.utopist_parser.specs.declared.parse_stop.ParseStop.TheVariants as stop
-use Rattle.utopist_lexer.specs.declared.token.Token.{Token}
-use Rattle.utopist_parser.specs.Symbols.{Symbol, symbol, symbols}
+use Rattle.utopist_parser.specs.Symbols.{Symbol}
 use Rattle.utopist_parser.specs.steps.Steps.{Reading, ReadOf, Miss, on_ok, next, meets, repeat_fuel}
 use Rattle.utopist_parser.specs.steps.Answers.{Fails}
 
@@ -25,8 +24,7 @@ with_front-nil (Err e) = refl
 -- a reading that fails where another does
 pub fails_on : {V W : Type 0} (e : ParseStop) (r : Reading V) (s : Reading W) → ((x : Miss) → r ≡ Err x → s ≡ Err x) → Fails e r → Fails e s
 fails_on stop.NoMem r s f h = tt
-fails_on (stop.Expected left) r s f h = f _ h
-fails_on (stop.TooDeep left) r s f h = f _ h
+fails_on (stop.Wrong why left) r s f h = f _ h
 
 module _ {V : Type 0} (begins : Symbol → Bool) (read : ReadOf V) where
   -- the parts so far, and those that still come, of which there is room for all

@@ -1,6 +1,6 @@
 -- The levels of expressions as forms, and the readers one level below.
-use Rattle.std.proofs.Common.{◌≡◌, ℕ, zero, suc, ◌≤◌, Bool, true, false, List, [], ◌∷◌, ◌++◌, Option, Some, refl, arith, inl, inr}
-use Rattle.std.specs.Prelude.{◌⊎◌, ◌&&◌, None}
+use Rattle.std.proofs.Common.{◌≡◌, ℕ, zero, suc, Bool, true, false, List, ◌∷◌, ◌++◌, Option, Some, refl, inr}
+use Rattle.std.specs.Prelude.{◌&&◌, None}
 use Rattle.utopist_parser.specs.declared.breadth.Breadth.{Breadth}
 use Rattle.utopist_parser.specs.declared.breadth.Breadth.TheVariants as breadth
 use Rattle.utopist_parser.specs.Symbols.{Symbol}
@@ -8,7 +8,7 @@ use Rattle.utopist_parser.specs.steps.Steps.{StepOf, next, meets, choose_at, dee
 use Rattle.utopist_parser.specs.Written.{Expression, Chain, Term, Factor}
 use Rattle.utopist_parser.specs.ExprSymbols.{spell_expr, spell_chain, spell_term, spell_factor}
 use Rattle.utopist_parser.specs.steps.ReadingExpr.{Nested, is_all, levels_within}
-use Rattle.utopist_parser.proofs.StepLaws.{Form, AgainAt, Aspect, again_only, all_laws, Keeps, Fitting}
+use Rattle.utopist_parser.proofs.StepLaws.{Form, AgainAt, Aspect, again_only, all_laws, Keeps}
 use Rattle.utopist_parser.proofs.Recast.{reform, reform_keeps}
 use Rattle.utopist_parser.proofs.Choice.{either, see_either, never_keeps}
 use Rattle.utopist_parser.proofs.Levels.{level, below, IfRoom, Rounds, deep_keeps}

@@ -1,5 +1,5 @@
 -- What the next symbol is, and what it is not.
-use Rattle.std.proofs.Common.{◌≡◌, Bool, true, false, Option, Some, None, refl, sym, ap, subst, ◌∙◌}
+use Rattle.std.proofs.Common.{◌≡◌, true, false, Option, Some, None, refl, sym, subst}
 use Rattle.utopist_lexer.specs.declared.token.Kind.{Kind}
 use Rattle.utopist_lexer.specs.Kinds.{same_kind}
 use Rattle.utopist_parser.specs.Symbols.{Symbol}

@@ -1,16 +1,14 @@
 -- {OPERATOR operand} read operand by operand, as a loop does.
-use Rattle.std.proofs.Common.{◌≡◌, ℕ, zero, suc, true, false, ◌+◌, ◌-◌, ◌<◌, ◌≤◌, max, List, [], ◌∷◌, length, Option, Some, None, Ok, Err, refl, sym, ap, subst, ◌∙◌, arith, drop, take}
+use Rattle.std.proofs.Common.{◌≡◌, ℕ, zero, suc, true, false, ◌+◌, ◌-◌, ◌<◌, ◌≤◌, max, List, length, Option, Some, None, Ok, Err, refl, sym, subst, ◌∙◌, arith, drop}
 use Rattle.std.specs.Prelude.{nat_le}
-use Rattle.std.proofs.lemmas.List.{take_rest, length-map}
 use Rattle.body_lang.specs.declared.op.Op.{Op}
-use Rattle.utopist_lexer.specs.declared.token.Token.{Token}
 use Rattle.utopist_syntax.specs.ExprTree.{ExprTree, op}
 use Rattle.utopist_parser.specs.declared.breadth.Breadth.{Breadth}
 use Rattle.utopist_parser.specs.declared.group.Group.{Group}
 use Rattle.utopist_parser.specs.declared.group.Group.TheVariants as group
 use Rattle.utopist_parser.specs.declared.parse_stop.ParseStop.{ParseStop}
-use Rattle.utopist_parser.specs.Symbols.{Symbol, symbol, symbols}
-use Rattle.utopist_parser.specs.steps.Steps.{Reading, ReadOf, Miss, deep, next}
+use Rattle.utopist_parser.specs.Symbols.{Symbol}
+use Rattle.utopist_parser.specs.steps.Steps.{Reading, ReadOf, Miss, TooDeep, next}
 use Rattle.utopist_parser.specs.steps.ReadingExpr.{Nested, op_over, more_at, Levels, levels_within, factor_at, term_at, chain_at, operator_of, group_within, operand_at}
 use Rattle.utopist_parser.specs.steps.Answers.{Fails}
 use Rattle.utopist_parser.proofs.Loops.{fails_on}
@@ -41,13 +39,13 @@ module _ (find : Option Symbol → Option Op) (operand : ReadOf Nested) (room : 
   ends v rest e s = s.gives ∙ ends-at s.fuel v rest (sym e)
 
   -- an operator for which there is no room, of so many at most
-  deep-at : (fuel : ℕ) (v : Nested) (rest : List Symbol) (o : Op) → find (next rest) ≡ Some o → room < v.1 → more_at find operand room fuel v rest ≡ Err (deep, length rest)
+  deep-at : (fuel : ℕ) (v : Nested) (rest : List Symbol) (o : Op) → find (next rest) ≡ Some o → room < v.1 → more_at find operand room fuel v rest ≡ Err (TooDeep, length rest)
   unfolding more_at
   deep-at zero v rest o e h = rw (e, more_than _ _ h) refl
   deep-at (suc fuel) v rest o e h = rw (e, more_than _ _ h) refl
 
   -- an operator for which there is no room
-  pub too_deep : (v : Nested) (rest : List Symbol) (o : Op) → Some o ≡ find (next rest) → room < v.1 → Operands v rest → total ≡ Err (deep, length rest)
+  pub too_deep : (v : Nested) (rest : List Symbol) (o : Op) → Some o ≡ find (next rest) → room < v.1 → Operands v rest → total ≡ Err (TooDeep, length rest)
   too_deep v rest o e h s = s.gives ∙ deep-at s.fuel v rest o (sym e) h
 
   -- an operand fails, of so many at most

@@ -1,13 +1,12 @@
 -- The rules of names and paths.
-use Rattle.std.proofs.Common.{◌≡◌, ℕ, true, false, List, [], ◌∷◌, map, Option, refl, ap}
+use Rattle.std.proofs.Common.{◌≡◌, ℕ, false, List, [], ◌∷◌, map, Option, refl, ap}
 use Rattle.utopist_lexer.specs.declared.mark.Mark.TheVariants as marks
 use Rattle.utopist_lexer.specs.declared.token.Kind.TheVariants as kinds
 use Rattle.utopist_syntax.specs.Named.{Named}
-use Rattle.utopist_syntax.specs.declared.path.Path.{Path}
 use Rattle.utopist_parser.specs.Symbols.{Symbol}
 use Rattle.utopist_parser.specs.steps.Steps.{StepOf, meets}
 use Rattle.utopist_parser.specs.steps.Single.{is_mark}
-use Rattle.utopist_parser.specs.steps.Lists.{separated_at, names_at, path_at, paths_at}
+use Rattle.utopist_parser.specs.steps.Lists.{names_at, path_at, paths_at}
 use Rattle.utopist_parser.specs.Written.{OneOrMore, WrittenPath}
 use Rattle.utopist_parser.specs.ExprTree.{all_of}
 use Rattle.utopist_parser.specs.FileSeen.{see_path}

@@ -1,5 +1,5 @@
 -- The forms of expressions that are one level deeper than their parts, each with its rule.
-use Rattle.std.proofs.Common.{◌≡◌, ℕ, zero, suc, ◌≤◌, max, Bool, true, false, cond, List, [], ◌∷◌, ◌++◌, map, Option, Some, None, refl, sym, ap, subst, arith}
+use Rattle.std.proofs.Common.{◌≡◌, ℕ, suc, max, Bool, true, false, cond, map, Option, Some, None, refl, sym, subst}
 use Rattle.std.specs.Prelude.{pos, ◌||◌}
 use Rattle.priz_base.specs.declared.place.Place.{Place}
 use Rattle.body_lang.specs.declared.cmp.Cmp.{Cmp}
@@ -13,20 +13,20 @@ use Rattle.utopist_syntax.specs.Named.{Named}
 use Rattle.utopist_syntax.specs.ExprTree as tree
 use Rattle.utopist_parser.specs.declared.breadth.Breadth.{Breadth}
 use Rattle.utopist_parser.specs.Symbols.{Symbol, word, mark}
-use Rattle.utopist_parser.specs.steps.Steps.{StepOf, meets, pick_at}
+use Rattle.utopist_parser.specs.steps.Steps.{meets, pick_at}
 use Rattle.utopist_parser.specs.steps.Single.{is_word, is_mark}
-use Rattle.utopist_parser.specs.Written.{OneOrMore, Expression, plain, Chain, one_term, Term, one_factor, Factor, literal}
+use Rattle.utopist_parser.specs.Written.{OneOrMore, Expression, Chain, Factor}
 use Rattle.utopist_parser.specs.ExprSymbols.{cmp_mark, loop_word}
 use Rattle.utopist_parser.specs.ExprTree.{all_of, see_expr, see_chain, see_factor}
 use Rattle.utopist_parser.specs.Nesting.{nest_expr, nest_chain, nest_factor}
 use Rattle.utopist_parser.specs.steps.ReadingExpr.{Nested, cmp_of, loop_of, trees_in, most, negated_step, round_step, call_step, loop_step, choice_step}
 use Rattle.utopist_parser.proofs.SameKind.{some_same}
-use Rattle.utopist_parser.proofs.StepLaws.{Form, Aspect, Fitting}
+use Rattle.utopist_parser.proofs.StepLaws.{Form, Aspect}
 use Rattle.utopist_parser.proofs.Sequence.{both}
 use Rattle.utopist_parser.proofs.Tokens.{one_symbol, pick_keeps}
 use Rattle.utopist_parser.proofs.Singles.{fixed_is, after, name_form, sub_form}
 use Rattle.utopist_parser.proofs.Rules.{Rule, fitting, name_rule, sub_rule, after_word, after_mark, stop, stop_rule, then_rule, map_rule, separated_form, separated_stops, separated_rule}
-use Rattle.utopist_parser.proofs.ExprFacts.{seen_expr, ExprStops, IsCloser, closes_chain, closes_expr}
+use Rattle.utopist_parser.proofs.ExprFacts.{seen_expr, IsCloser, closes_chain, closes_expr}
 use Rattle.utopist_parser.proofs.Lows.{low_factor_form, low_chain_form, low_expr_form, low_factor, low_chain, low_expr, LowRules}
 
 -- ---- comparisons and loops

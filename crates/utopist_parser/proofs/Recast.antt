@@ -1,7 +1,7 @@
 -- Parts of another type with the same symbols keep the laws.
 use Rattle.std.proofs.Common.{◌≡◌, ℕ, ◌≤◌, Option, List, ◌∷◌, ◌++◌, Ok, Err, sym, ap, subst, ◌∙◌}
 use Rattle.utopist_parser.specs.Symbols.{Symbol}
-use Rattle.utopist_parser.specs.steps.Steps.{Why, expected, deep, Miss, Reading, StepOf, next}
+use Rattle.utopist_parser.specs.steps.Steps.{Why, Unexpected, TooDeep, Miss, Reading, StepOf, next}
 use Rattle.utopist_parser.proofs.StepLaws.{at_head, Form, Stuck, Further, Took, Blames, AgainAt, Laws, Aspect, again_only, all_laws, Keeps}
 
 -- the same parts, of another type
@@ -34,8 +34,8 @@ module _ {X C V : Type 0} (g : Form X) (see : X → V) (spell : C → List Symbo
         }
 
     recast_further : (why : Why) (front : List Symbol) (c : Symbol) → Further g why front c → Further there why front c
-    recast_further expected front c h = tt
-    recast_further deep front c h = (to h.0, h.1, to_spelled h.0 ∙ h.2, h.3, subst (λ x. g.Fits x h.3) (sym (from_to h.0)) h.4)
+    recast_further Unexpected front c h = tt
+    recast_further TooDeep front c h = (to h.0, h.1, to_spelled h.0 ∙ h.2, h.3, subst (λ x. g.Fits x h.3) (sym (from_to h.0)) h.4)
 
     recast_blames : (ts : List Symbol) (e : Miss) → g.Enters (next ts) → f room ts ≡ Err e → Blames there f room ts e
     recast_blames ts e n h =
@@ -95,8 +95,8 @@ module _ {X V : Type 0} (g : Form X) (see : X → V) (Fits : X → ℕ → Type 
         };
   } where
     same_further : (why : Why) (front : List Symbol) (c : Symbol) → Further g why front c → Further other why front c
-    same_further expected front c h = tt
-    same_further deep front c h = (h.0, h.1, h.2, h.3, from h.0 h.3 h.4)
+    same_further Unexpected front c h = tt
+    same_further TooDeep front c h = (h.0, h.1, h.2, h.3, from h.0 h.3 h.4)
 
   pub reform_keeps : (m : Aspect) (f : StepOf V) (room : ℕ) → Keeps m g see f room → Keeps m (reform g Fits grows Stops) see f room
   reform_keeps again_only f room a = reform_again f room a

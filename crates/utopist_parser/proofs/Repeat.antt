@@ -4,7 +4,7 @@ use Rattle.std.specs.Prelude.{◌⊎◌}
 use Rattle.std.specs.List.{flat_map}
 use Rattle.std.proofs.lemmas.List.{append-nil}
 use Rattle.utopist_parser.specs.Symbols.{Symbol}
-use Rattle.utopist_parser.specs.steps.Steps.{Why, expected, deep, Miss, Reading, StepOf, on_ok, next, meets, repeat_fuel, repeat_at}
+use Rattle.utopist_parser.specs.steps.Steps.{Why, Unexpected, TooDeep, Miss, Reading, StepOf, on_ok, next, meets, repeat_fuel, repeat_at}
 use Rattle.utopist_parser.proofs.StepLaws.{Reaches, reaches_up, AtHead, at_head, Form, Stuck, Further, Took, Blames, AgainAt, Laws, Aspect, again_only, all_laws, Keeps, ok_is, then_ok, then_err, same_next}
 
 -- what begins has a symbol
@@ -130,8 +130,8 @@ module _ {X V : Type 0} (g : Form X) (see : X → V) (f : StepOf V) (begins : Sy
       on M r more (suc k) l = part_err k M (front ++ (c ∷ more)) (why, suc (length more)) (subst (λ o. meets begins o ≡ true) (same_next front c cs more) n) (s.fails M r more)
 
     part_further : (why : Why) (front : List Symbol) (c : Symbol) → Further g why front c → Further any why front c
-    part_further expected front c h = tt
-    part_further deep front c h = (h.0 ∷ [], h.1, append-nil (g.spell h.0) ∙ h.2, h.3, (h.4, tt))
+    part_further Unexpected front c h = tt
+    part_further TooDeep front c h = (h.0 ∷ [], h.1, append-nil (g.spell h.0) ∙ h.2, h.3, (h.4, tt))
 
     -- a part and then what fails
     rest_stuck : (x : X) (why : Why) (front wrong : List Symbol) → g.Fits x room → g.Stops x (next (front ++ wrong)) → AtHead wrong (RepeatStuck why front) → AtHead wrong (RepeatStuck why (g.spell x ++ front))
@@ -146,8 +146,8 @@ module _ {X V : Type 0} (g : Form X) (see : X → V) (f : StepOf V) (begins : Sy
           ap (λ l. repeat_fuel begins (f M) (suc k) l) same ∙ rest_err k M (g.spell x ++ (front ++ (c ∷ more))) (see x) (front ++ (c ∷ more)) (why, suc (length more)) (opens x (front ++ (c ∷ more))) read (i.fails M r more k (omega (arith, l, size, some_symbol x)))
 
     rest_further : (x : X) → g.Fits x room → (why : Why) (front : List Symbol) (c : Symbol) → Further any why front c → Further any why (g.spell x ++ front) c
-    rest_further x i expected front c h = tt
-    rest_further x i deep front c h = (
+    rest_further x i Unexpected front c h = tt
+    rest_further x i TooDeep front c h = (
       x ∷ h.0,
       h.1,
       ap (λ l. g.spell x ++ l) h.2 ∙ sym (append_assoc (g.spell x) front (c ∷ h.1)),
@@ -213,8 +213,8 @@ module _ {X V : Type 0} (g : Form X) (see : X → V) (f : StepOf V) (begins : Sy
           further = at_head (Further any e.0 b.front) (Further (all S) e.0 b.front) (λ c s. same_further e.0 b.front c s) b.wrong b.further;
         } where
           same_further : (why : Why) (front : List Symbol) (c : Symbol) → Further any why front c → Further (all S) why front c
-          same_further expected front c h = tt
-          same_further deep front c h = h
+          same_further Unexpected front c h = tt
+          same_further TooDeep front c h = h
 
   whole_again : (M : ℕ) (S : Option Symbol → Type 0) → AgainAt g see f M → AgainAt (all S) (map see) (repeat_at begins f) M
   whole_again M S a = record { again = λ xs h rest s. repeat_again M a S xs h rest s.0 s.1 (length (spelled xs ++ rest)) (omega arith) }

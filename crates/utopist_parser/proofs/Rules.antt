@@ -1,7 +1,6 @@
 -- Rules: a form, what it means, and the step that reads it, at a room and for an aspect of the laws.
-use Rattle.std.proofs.Common.{◌≡◌, ℕ, ◌≤◌, Bool, true, false, List, [], ◌∷◌, ◌++◌, map, Option, Some, None, refl, inl, inr}
-use Rattle.std.specs.Prelude.{ℤ, pos, suc, ◌⊎◌}
-use Rattle.priz_base.specs.declared.place.Place.{Place}
+use Rattle.std.proofs.Common.{◌≡◌, ℕ, Bool, true, false, List, [], ◌∷◌, ◌++◌, map, Option, Some, None, refl, inl, inr}
+use Rattle.std.specs.Prelude.{pos, suc, ◌⊎◌}
 use Rattle.utopist_lexer.specs.declared.word.Word.{Word}
 use Rattle.utopist_lexer.specs.declared.mark.Mark.{Mark}
 use Rattle.utopist_lexer.specs.declared.token.Kind.{Kind}
@@ -20,7 +19,7 @@ use Rattle.utopist_parser.proofs.StepLaws.{Form, Aspect, again_only, all_laws, K
 use Rattle.utopist_parser.proofs.Sequence.{both, both_by, then_keeps, map_keeps}
 use Rattle.utopist_parser.proofs.Recast.{recast, recast_keeps}
 use Rattle.utopist_parser.proofs.Choice.{either, either_in, see_either, choose_keeps, choose_in_keeps, nothing, give_keeps}
-use Rattle.utopist_parser.proofs.Repeat.{LastStops, repeated, last_stops, repeat_keeps}
+use Rattle.utopist_parser.proofs.Repeat.{repeated, last_stops, repeat_keeps}
 use Rattle.utopist_parser.proofs.Singles.{IsFixed, after, after_keeps, some_name, name_form, name_keeps, number_form, number_keeps, divisor_form, divisor_keeps, sub_form, sub_keeps}
 
 -- any symbol may stand there

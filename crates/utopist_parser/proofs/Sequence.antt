@@ -1,7 +1,7 @@
 -- One step after another keeps the laws.
 use Rattle.std.proofs.Common.{◌≡◌, ℕ, max, List, [], ◌∷◌, ◌++◌, Option, Ok, Err, refl, sym, ap, subst, ◌∙◌, append_assoc, arith, inl, inr}
 use Rattle.utopist_parser.specs.Symbols.{Symbol}
-use Rattle.utopist_parser.specs.steps.Steps.{Why, expected, deep, Miss, StepOf, ◌>>=◌, give, next}
+use Rattle.utopist_parser.specs.steps.Steps.{Why, Unexpected, TooDeep, Miss, StepOf, ◌>>=◌, give, next}
 use Rattle.utopist_parser.proofs.StepLaws.{reaches_up, AtHead, at_head, Form, Stuck, Further, Took, Blames, AgainAt, Laws, Aspect, again_only, all_laws, Keeps, Fitting, ok_is, then_ok, then_err, same_next}
 
 -- one part after another, of which what stops the second may depend on the first
@@ -53,8 +53,8 @@ module _ {X Y V W : Type 0} (g : Form X) (d : X → Form Y) (see : X → V) (see
         }
 
     first_further : (why : Why) (front : List Symbol) (c : Symbol) → Further g why front c → Further pair why front c
-    first_further expected front c h = tt
-    first_further deep front c h =
+    first_further Unexpected front c h = tt
+    first_further TooDeep front c h =
         let y = (d h.0).spell (some h.0) in (
           (h.0, some h.0),
           h.1 ++ y,
@@ -80,8 +80,8 @@ module _ {X Y V W : Type 0} (g : Form X) (d : X → Form Y) (see : X → V) (see
         }
 
     second_further : (x : X) → g.Fits x room → (why : Why) (front : List Symbol) (c : Symbol) → Further (d x) why front c → Further pair why (g.spell x ++ front) c
-    second_further x i expected front c h = tt
-    second_further x i deep front c h = (
+    second_further x i Unexpected front c h = tt
+    second_further x i TooDeep front c h = (
       (x, h.0),
       h.1,
       ap (λ l. g.spell x ++ l) h.2 ∙ sym (append_assoc (g.spell x) front (c ∷ h.1)),

@@ -5,11 +5,10 @@ use Rattle.priz_base.specs.declared.place.Place.{Place}
 use Rattle.utopist_lexer.specs.declared.token.Kind.{Kind}
 use Rattle.utopist_lexer.specs.declared.token.Kind.TheVariants as kinds
 use Rattle.utopist_lexer.specs.Places.{first_place}
-use Rattle.utopist_lexer.specs.Kinds.{same_kind}
 use Rattle.utopist_syntax.specs.Named.{Named}
 use Rattle.utopist_parser.specs.Symbols.{Symbol, name, sub, number, fixed}
 use Rattle.utopist_parser.specs.steps.Steps.{StepOf, ◌>>=◌}
-use Rattle.utopist_parser.specs.steps.Single.{is_kind, want_kind, want_name, natural, naturals, positive, number_of, want_number, placed, want_sub, fixed_at, name_at, number_at, divisor_at, sub_at}
+use Rattle.utopist_parser.specs.steps.Single.{is_kind, want_kind, want_name, natural, naturals, positive, want_number, placed, want_sub, fixed_at, name_at, number_at, divisor_at, sub_at}
 use Rattle.utopist_parser.proofs.SameKind.{some_same, same_kind-true, same_kind-refl}
 use Rattle.utopist_parser.proofs.StepLaws.{Form, Aspect, Keeps, Fitting}
 use Rattle.utopist_parser.proofs.Sequence.{both, then_keeps}

@@ -2,14 +2,13 @@
 use Rattle.std.proofs.Common.{◌≡◌, ◌<◌, Bool, true, List, [], ◌∷◌, ◌++◌, length, map, Ok, refl, sym, ap, subst, ◌∙◌, arith}
 use Rattle.std.proofs.lemmas.List.{map-append}
 use Rattle.utopist_lexer.specs.declared.mark.Mark.{Mark}
-use Rattle.utopist_lexer.specs.declared.mark.Mark.TheVariants as marks
 use Rattle.utopist_parser.specs.declared.parse_stop.ParseStop.{ParseStop}
 use Rattle.utopist_parser.specs.Symbols.{Symbol}
 use Rattle.utopist_parser.specs.steps.Steps.{Reading, ReadOf, StepOf, next, meets, repeat_fuel}
 use Rattle.utopist_parser.specs.steps.Single.{is_mark}
 use Rattle.utopist_parser.specs.steps.Lists.{next_at, separated_at}
 use Rattle.utopist_parser.specs.steps.Answers.{Fails}
-use Rattle.utopist_parser.proofs.Loops.{SoFar, fails_on, with_front-nil, goes_on, first_part}
+use Rattle.utopist_parser.proofs.Loops.{SoFar, fails_on, with_front-nil, goes_on}
 
 module _ {V : Type 0} (separator : Mark) (f : StepOf V) where
   -- parts with separators so far, of all that are read

@@ -2,16 +2,16 @@
 use Rattle.std.proofs.Common.{◌≡◌, ℕ, suc, ◌≤◌, List, [], ◌∷◌, ◌++◌, length, Option, Ok, Err, refl, ap, arith, inl, inr}
 use Rattle.std.specs.Prelude.{◌⊎◌}
 use Rattle.utopist_parser.specs.Symbols.{Symbol}
-use Rattle.utopist_parser.specs.steps.Steps.{Why, expected, deep, Miss, Reading, StepOf, on_ok, next}
+use Rattle.utopist_parser.specs.steps.Steps.{Why, Unexpected, TooDeep, Miss, Reading, StepOf, on_ok, next}
 
 -- the rooms at which the same reading has the same fault: any larger one, or for a limit this one alone
 abbrev pub Reaches : Why → ℕ → ℕ → Type 0
-Reaches expected m M = m ≤ M
-Reaches deep m M = M ≡ m
+Reaches Unexpected m M = m ≤ M
+Reaches TooDeep m M = M ≡ m
 
 pub reaches_up : (w : Why) (m M : ℕ) → Reaches w m M → m ≤ M
-reaches_up expected m M r = r
-reaches_up deep m M r = omega (arith, r)
+reaches_up Unexpected m M r = r
+reaches_up TooDeep m M r = omega (arith, r)
 
 -- a fact of the first symbol, where there is one
 abbrev pub AtHead : List Symbol → (Symbol → Type 0) → Type 0
@@ -36,8 +36,8 @@ pub record Stuck {V : Type 0} (f : StepOf V) (room : ℕ) (why : Why) (front : L
 
 -- what is too deep goes on where there is more room
 abbrev pub Further : {X : Type 0} → Form X → Why → List Symbol → Symbol → Type 0
-Further g expected front c = Unit {0}
-Further {X} g deep front c = (x : X) × (more : List Symbol) × (g.spell x ≡ front ++ (c ∷ more)) × (M : ℕ) × g.Fits x M
+Further g Unexpected front c = Unit {0}
+Further {X} g TooDeep front c = (x : X) × (more : List Symbol) × (g.spell x ≡ front ++ (c ∷ more)) × (M : ℕ) × g.Fits x M
 
 -- what was read is a part
 pub record Took {X V : Type 0} (g : Form X) (see : X → V) (room : ℕ) (ts : List Symbol) (v : V × List Symbol) : Type 0 where

@@ -1,7 +1,7 @@
 -- The laws of one symbol that is wanted, alone and before another step.
 use Rattle.std.proofs.Common.{◌≡◌, ℕ, suc, List, [], ◌∷◌, length, Option, Some, None, Ok, Err, refl, ap, subst, ◌∙◌, arith}
 use Rattle.utopist_parser.specs.Symbols.{Symbol}
-use Rattle.utopist_parser.specs.steps.Steps.{expected, Miss, Reading, token_value, token_at, picked, pick_at}
+use Rattle.utopist_parser.specs.steps.Steps.{Unexpected, Miss, Reading, token_value, token_at, picked, pick_at}
 use Rattle.utopist_parser.proofs.StepLaws.{Form, Took, Blames, Laws, Aspect, again_only, all_laws, Keeps, failed_is, ok_is}
 use Rattle.utopist_parser.proofs.Recast.{same_keeps}
 
@@ -23,10 +23,10 @@ module _ {X V : Type 0} (want : Symbol → Option V) (sign : X → Symbol) (see 
         record { part = x.0; seen = x.2 ∙ ap (λ (p : V × List Symbol). p.0) y; parts = ap (λ d. d ∷ cs) x.1 ∙ ap (λ (p : V × List Symbol). sign x.0 ∷ p.1) y; fits = tt; stops = tt }
 
   token_blames : (room : ℕ) (ts : List Symbol) (e : Miss) → token_at want room ts ≡ Err e → Blames (one_symbol sign) (token_at want) room ts e
-  token_blames room [] e h = subst (λ q. Blames (one_symbol sign) (token_at want) room [] q) (failed_is V (expected, 0) e h) (record { front = []; wrong = []; split = refl; size = refl; begun = some_x; more = sign some_x ∷ []; fits = tt; begins = refl; stuck = tt; further = tt })
+  token_blames room [] e h = subst (λ q. Blames (one_symbol sign) (token_at want) room [] q) (failed_is V (Unexpected, 0) e h) (record { front = []; wrong = []; split = refl; size = refl; begun = some_x; more = sign some_x ∷ []; fits = tt; begins = refl; stuck = tt; further = tt })
   token_blames room (c ∷ cs) e h = go (want c) refl h where
     go : (o : Option V) → want c ≡ o → token_value o (c ∷ cs) cs ≡ Err e → Blames (one_symbol sign) (token_at want) room (c ∷ cs) e
-    go None w i = subst (λ q. Blames (one_symbol sign) (token_at want) room (c ∷ cs) q) (failed_is V (expected, length (c ∷ cs)) e i) (record {
+    go None w i = subst (λ q. Blames (one_symbol sign) (token_at want) room (c ∷ cs) q) (failed_is V (Unexpected, length (c ∷ cs)) e i) (record {
       front = [];
       wrong = c ∷ cs;
       split = refl;
@@ -39,7 +39,7 @@ module _ {X V : Type 0} (want : Symbol → Option V) (sign : X → Symbol) (see 
       further = tt;
     }) where
       err_at : (U : Type 0) → ℕ → Reading U
-      err_at U k = Err (expected, k)
+      err_at U k = Err (Unexpected, k)
     go (Some u) w i = absurd cc
 
   token_laws : (room : ℕ) → Laws (one_symbol sign) see (token_at want) room

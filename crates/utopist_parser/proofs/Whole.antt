@@ -1,9 +1,8 @@
 -- From the tokens of a text to the tree that it reads as, or to its first wrong place.
-use Rattle.std.proofs.Common.{◌≡◌, ◌≢◌, ℕ, suc, ◌-◌, ◌≤◌, max, List, [], ◌∷◌, ◌++◌, length, map, drop, Option, Some, None, Result, Ok, Err, refl, sym, ap, subst, ◌∙◌, append_assoc, arith, inl, inr, length-append}
-use Rattle.std.specs.Prelude.{All, IsSome}
+use Rattle.std.proofs.Common.{◌≡◌, ℕ, suc, ◌-◌, ◌≤◌, max, List, [], ◌∷◌, ◌++◌, length, map, drop, Option, Some, None, Result, Ok, Err, refl, sym, ap, subst, ◌∙◌, append_assoc, arith, inl, inr, length-append}
+use Rattle.std.specs.Prelude.{IsSome}
 use Rattle.std.specs.Str.{chars}
 use Rattle.std.proofs.Math.Seq.{drop-length}
-use Rattle.std.proofs.lemmas.List.Elements.{All-map}
 use Rattle.std.proofs.lemmas.List.{append-nil, map-append, length-map, nil_from_length}
 use Rattle.priz_base.specs.declared.place.Place.{Place}
 use Rattle.utopist_lexer.specs.declared.token.Token.{Token}
@@ -15,20 +14,18 @@ use Rattle.utopist_lexer.specs.Scanning.{tok, place_of}
 use Rattle.utopist_lexer.proofs.OneWay.{one_list, not_both}
 use Rattle.utopist_syntax.specs.declared.file.File.{File}
 use Rattle.utopist_syntax.specs.FileTree.{FileTree, file_tree}
-use Rattle.utopist_parser.specs.declared.parser.ParseFault.{ParseFault}
 use Rattle.utopist_parser.specs.declared.parser.ParseFault.TheVariants as fault
 use Rattle.utopist_parser.specs.Symbols.{Symbol, symbol_of, symbol, symbols, end}
 use Rattle.utopist_parser.specs.steps.Views.{end_at, WholeTokens, FaultyTokens, TokensOf}
-use Rattle.utopist_syntax.specs.declared.compute.Compute.{Compute}
-use Rattle.utopist_parser.specs.WrittenFile.{WrittenCompute, WrittenFile}
+use Rattle.utopist_parser.specs.WrittenFile.{WrittenFile}
 use Rattle.utopist_parser.specs.FileSymbols.{spell_file}
-use Rattle.utopist_parser.specs.FileSeen.{see_compute, see_file}
+use Rattle.utopist_parser.specs.FileSeen.{see_file}
 use Rattle.utopist_parser.specs.FileNesting.{IsFile}
 use Rattle.utopist_parser.specs.Begins.{BeginsWithin, BeginsNone, BeginsTooDeep, FirstWrong}
 use Rattle.utopist_parser.specs.Forms.{ReadsAs, FirstFault, HasNoTree, ParseOf}
-use Rattle.utopist_parser.specs.steps.Steps.{Reading, Why, Miss, expected, deep}
+use Rattle.utopist_parser.specs.steps.Steps.{Reading, Why, Miss, Unexpected, TooDeep}
 use Rattle.utopist_parser.specs.steps.ReadingFile.{file_at}
-use Rattle.utopist_parser.specs.steps.Answers.{PlaceFrom, PlaceOf}
+use Rattle.utopist_parser.specs.steps.Answers.{PlaceFrom, PlaceOf, fault_by}
 use Rattle.utopist_parser.proofs.StepLaws.{AtHead, Stuck, Further, Blames, Laws, all_laws}
 use Rattle.utopist_parser.proofs.FileRules.{file_grows, file_form, file_rule}
 use Rattle.utopist_parser.proofs.NoEnd.{front_of, front_no_end, file_ends, reads_no_end, ends_once, no_end_inside}
@@ -62,16 +59,16 @@ stuck_at M why front c fails b =
 
 -- what is wrong with symbols, by why a reading fails
 abbrev WrongBy : Why → List Symbol → Type 0
-WrongBy expected = BeginsNone
-WrongBy deep = BeginsTooDeep
+WrongBy Unexpected = BeginsNone
+WrongBy TooDeep = BeginsTooDeep
 
 stuck_wrong : (why : Why) (front : List Symbol) (c : Symbol) → Stuck file_at room why front c → Further file_form why front c → WrongBy why (front ++ c ∷ [])
-stuck_wrong expected front c s f = λ b.
+stuck_wrong Unexpected front c s f = λ b.
     let M = max room b.0 in
-    stuck_at M expected front c (s.fails M (omega arith)) (b.1.0, b.1.1, file_grows b.1.0 b.0 (suc M) (omega arith) b.1.2, b.1.3)
-stuck_wrong deep front c s f = (
+    stuck_at M Unexpected front c (s.fails M (omega arith)) (b.1.0, b.1.1, file_grows b.1.0 b.0 (suc M) (omega arith) b.1.2, b.1.3)
+stuck_wrong TooDeep front c s f = (
   (suc f.3, (f.0, f.1, f.4, f.2 ∙ sym (append_assoc front (c ∷ []) f.1))),
-  λ b. stuck_at room deep front c (s.fails room refl) b,
+  λ b. stuck_at room TooDeep front c (s.fails room refl) b,
 )
 
 -- ---- the tokens of a whole text
@@ -215,19 +212,14 @@ wrong_place text items (Some l) t Wrong front c begins wrong s = faulty_wrong te
 
 -- ---- the answer
 
--- the fault at a place, by why a reading fails
-abbrev pub fault_by : Why → Place → ParseFault
-fault_by expected p = fault.Expected p
-fault_by deep p = fault.TooDeep p
-
 -- what is answered for the first wrong place, or for the fault behind all tokens
 abbrev pub Answered : List ℕ → Why → Result Place LexFault → Type 0
 Answered text why (Ok p) = ParseOf text (Err (fault_by why p))
 Answered text why (Err f) = ParseOf text (Err (fault.Lex f))
 
 wrong_answer : (text : List ℕ) (why : Why) (p : Place) → FirstWrong (WrongBy why) (chars text) p → HasNoTree text → ParseOf text (Err (fault_by why p))
-wrong_answer text expected p w n = (w, n)
-wrong_answer text deep p w n = (w, n)
+wrong_answer text Unexpected p w n = (w, n)
+wrong_answer text TooDeep p w n = (w, n)
 
 module _ (text : List ℕ) (items : List Token) (o : Option LexFault) (t : TokensOf (chars text) items o) (why : Why) (left : ℕ) (failed : file_at room (symbols items) ≡ Err (why, left)) where
   none : HasNoTree text

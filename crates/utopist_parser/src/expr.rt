@@ -9,19 +9,15 @@ use crate::forms::{
     read_call, read_choice, read_literal, read_loop, read_negated, read_round, read_variable,
 };
 use crate::group::Group;
+use crate::nested::NestedExpr;
 use crate::nodes::operation_of;
 use crate::operators::operator_of;
 use crate::parse_stop::ParseStop;
 use crate::reader::Reader;
 use utopist_lexer::{Kind, Mark, Word};
-use utopist_syntax::Expr;
 
 #[cycle(reading)]
-pub fn read_expr<'a>(
-    reader: &mut Reader<'_, 'a>,
-    breadth: Breadth,
-    room: u32,
-) -> Result<(Expr<'a>, u32), ParseStop>
+pub fn read_expr<'a>(reader: &mut Reader<'_, 'a>, breadth: Breadth, room: u32) -> NestedExpr<'a>
     requires { room ≤ MOST_ROOM }
     ensures reads { ReadThrough as_nested (settled (expr_at breadth room)) reader.old result reader.new }
     ensures within { IfOk result (λ x. (1 ≤ x.1) × (x.1 ≤ room + 1)) }
@@ -42,7 +38,7 @@ pub fn read_group<'a>(
     group: Group,
     breadth: Breadth,
     room: u32,
-) -> Result<(Expr<'a>, u32), ParseStop>
+) -> NestedExpr<'a>
     requires { room ≤ MOST_ROOM }
     ensures reads { ReadThrough as_nested (settled (group_within group breadth room)) reader.old result reader.new }
     ensures within { IfOk result (λ x. (1 ≤ x.1) × (x.1 ≤ room + 1)) }
@@ -67,7 +63,7 @@ fn read_operand<'a>(
     group: Group,
     breadth: Breadth,
     room: u32,
-) -> Result<(Expr<'a>, u32), ParseStop>
+) -> NestedExpr<'a>
     requires { room ≤ MOST_ROOM }
     ensures reads { ReadThrough as_nested (settled (operand_at group breadth room)) reader.old result reader.new }
     ensures within { IfOk result (λ x. (1 ≤ x.1) × (x.1 ≤ room + 1)) }
@@ -80,11 +76,7 @@ fn read_operand<'a>(
 }
 
 #[cycle(reading)]
-pub fn read_factor<'a>(
-    reader: &mut Reader<'_, 'a>,
-    breadth: Breadth,
-    room: u32,
-) -> Result<(Expr<'a>, u32), ParseStop>
+pub fn read_factor<'a>(reader: &mut Reader<'_, 'a>, breadth: Breadth, room: u32) -> NestedExpr<'a>
     requires { room ≤ MOST_ROOM }
     ensures reads { ReadThrough as_nested (settled (factor_at breadth room)) reader.old result reader.new }
     ensures within { IfOk result (λ x. (1 ≤ x.1) × (x.1 ≤ room + 1)) }

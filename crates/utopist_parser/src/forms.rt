@@ -11,6 +11,7 @@ ghost use Rattle.utopist_parser.specs.steps.Steps.{on_ok};
 use crate::breadth::{Breadth, MOST_ROOM};
 use crate::expr::{read_expr, read_factor, read_group};
 use crate::group::Group;
+use crate::nested::NestedExpr;
 use crate::nodes::{call_of, choice_of, loop_of, negation_of, number_of, variable_of};
 use crate::operators::{read_cmp, read_loop_kind};
 use crate::parse_stop::ParseStop;
@@ -23,11 +24,7 @@ use utopist_syntax::{Expr, Path};
 const COMMA: Kind = Kind::Mark(Mark::Comma);
 
 #[cycle(reading)]
-pub fn read_negated<'a>(
-    reader: &mut Reader<'_, 'a>,
-    breadth: Breadth,
-    room: u32,
-) -> Result<(Expr<'a>, u32), ParseStop>
+pub fn read_negated<'a>(reader: &mut Reader<'_, 'a>, breadth: Breadth, room: u32) -> NestedExpr<'a>
     requires { room < MOST_ROOM }
     ensures reads { ReadThrough as_nested (negated_step (settled (factor_at breadth room))) reader.old result reader.new }
     ensures within { IfOk result (λ x. (1 ≤ x.1) × (x.1 ≤ room + 2)) }
@@ -40,11 +37,7 @@ pub fn read_negated<'a>(
 }
 
 #[cycle(reading)]
-pub fn read_round<'a>(
-    reader: &mut Reader<'_, 'a>,
-    breadth: Breadth,
-    room: u32,
-) -> Result<(Expr<'a>, u32), ParseStop>
+pub fn read_round<'a>(reader: &mut Reader<'_, 'a>, breadth: Breadth, room: u32) -> NestedExpr<'a>
     requires { room < MOST_ROOM }
     ensures reads { ReadThrough as_nested (round_step (settled (expr_at breadth room))) reader.old result reader.new }
     ensures within { IfOk result (λ x. (1 ≤ x.1) × (x.1 ≤ room + 2)) }
@@ -57,11 +50,7 @@ pub fn read_round<'a>(
 }
 
 #[cycle(reading)]
-pub fn read_call<'a>(
-    reader: &mut Reader<'_, 'a>,
-    breadth: Breadth,
-    room: u32,
-) -> Result<(Expr<'a>, u32), ParseStop>
+pub fn read_call<'a>(reader: &mut Reader<'_, 'a>, breadth: Breadth, room: u32) -> NestedExpr<'a>
     requires { room < MOST_ROOM }
     ensures reads { ReadThrough as_nested (call_step (settled (expr_at breadth room))) reader.old result reader.new }
     ensures within { IfOk result (λ x. (1 ≤ x.1) × (x.1 ≤ room + 2)) }
@@ -104,7 +93,7 @@ fn read_behind<'a>(
     kind: Kind,
     breadth: Breadth,
     room: u32,
-) -> Result<(Expr<'a>, u32), ParseStop>
+) -> NestedExpr<'a>
     requires { room < MOST_ROOM }
     ensures reads { ReadThrough as_nested (behind_step kind (settled (expr_at breadth room))) reader.old result reader.new }
     ensures within { IfOk result (λ x. (1 ≤ x.1) × (x.1 ≤ room + 1)) }
@@ -115,11 +104,7 @@ fn read_behind<'a>(
 }
 
 #[cycle(reading)]
-pub fn read_loop<'a>(
-    reader: &mut Reader<'_, 'a>,
-    breadth: Breadth,
-    room: u32,
-) -> Result<(Expr<'a>, u32), ParseStop>
+pub fn read_loop<'a>(reader: &mut Reader<'_, 'a>, breadth: Breadth, room: u32) -> NestedExpr<'a>
     requires { room < MOST_ROOM }
     ensures reads { ReadThrough as_nested (loop_step (settled (expr_at breadth room))) reader.old result reader.new }
     ensures within { IfOk result (λ x. (1 ≤ x.1) × (x.1 ≤ room + 2)) }
@@ -137,11 +122,7 @@ pub fn read_loop<'a>(
 }
 
 #[cycle(reading)]
-pub fn read_choice<'a>(
-    reader: &mut Reader<'_, 'a>,
-    breadth: Breadth,
-    room: u32,
-) -> Result<(Expr<'a>, u32), ParseStop>
+pub fn read_choice<'a>(reader: &mut Reader<'_, 'a>, breadth: Breadth, room: u32) -> NestedExpr<'a>
     requires { room < MOST_ROOM }
     ensures reads { ReadThrough as_nested (choice_step (settled (chain_at breadth room)) (settled (expr_at breadth room))) reader.old result reader.new }
     ensures within { IfOk result (λ x. (1 ≤ x.1) × (x.1 ≤ room + 2)) }
@@ -157,7 +138,7 @@ pub fn read_choice<'a>(
     Ok((tree, a.max(b).max(c.max(d)) + 1))
 }
 
-pub fn read_variable<'a>(reader: &mut Reader<'_, 'a>) -> Result<(Expr<'a>, u32), ParseStop>
+pub fn read_variable<'a>(reader: &mut Reader<'_, 'a>) -> NestedExpr<'a>
     ensures reads { ReadThrough as_nested variable_step reader.old result reader.new }
     ensures within { IfOk result (λ x. x.1 ≡ 1) }
     ensures shorter { OnOk result (length reader.new < length reader.old) }
@@ -166,7 +147,7 @@ pub fn read_variable<'a>(reader: &mut Reader<'_, 'a>) -> Result<(Expr<'a>, u32),
     Ok((variable_of(path), 1))
 }
 
-pub fn read_literal<'a>(reader: &mut Reader<'_, 'a>) -> Result<(Expr<'a>, u32), ParseStop>
+pub fn read_literal<'a>(reader: &mut Reader<'_, 'a>) -> NestedExpr<'a>
     ensures reads { ReadThrough as_nested literal_step reader.old result reader.new }
     ensures within { IfOk result (λ x. x.1 ≡ 1) }
     ensures shorter { OnOk result (length reader.new < length reader.old) }

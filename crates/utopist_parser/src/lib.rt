@@ -13,6 +13,7 @@ mod given;
 mod group;
 mod item;
 mod laws;
+mod nested;
 mod nodes;
 mod operators;
 mod parse_stop;
@@ -22,8 +23,6 @@ mod paths;
 mod production;
 mod reader;
 mod scan;
-#[cfg(test)]
-mod tests;
 
 pub use laws::{
     examples_are_read_as_they_should, symbols_begin_what_goes_on, texts_have_one_answer,

@@ -4,14 +4,21 @@ ghost use Rattle.utopist_parser.specs.declared.parse_stop.ParseStop.TheVariants.
 
 use std::alloc::{AllocError, AllocFailed};
 
+/// Why a token is wrong.
+#[derive(Clone, Copy)]
+pub enum Why {
+    /// No form goes on with it.
+    Unexpected,
+    /// With it the nesting is too deep.
+    TooDeep,
+}
+
 /// Why a reading stops.
 #[derive(Clone, Copy)]
 pub enum ParseStop {
     NoMem,
-    /// How many tokens are left at the first wrong one.
-    Expected(usize),
-    /// How many tokens are left at the first that is nested too deep.
-    TooDeep(usize),
+    /// The first wrong token, by how many are left at it.
+    Wrong(Why, usize),
 }
 
 impl From<AllocError> for ParseStop {

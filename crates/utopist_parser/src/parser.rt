@@ -3,12 +3,12 @@ ghost use Rattle.std.specs.Prelude.{◌≡◌, ◌≤◌, length, IfOk, IsSome};
 ghost use Rattle.priz_base.specs.Reading.{max_input};
 ghost use Rattle.utopist_syntax.specs.Shape.{HasShape};
 ghost use Rattle.utopist_syntax.specs.FileTree.{file_tree};
-ghost use Rattle.utopist_parser.specs.steps.Answers.{PlaceOf};
+ghost use Rattle.utopist_parser.specs.steps.Answers.{PlaceOf, fault_by};
 ghost use Rattle.utopist_parser.specs.Forms.{ParseOf};
 ghost use Rattle.utopist_parser.specs.Slices.{AllSlices};
 
 use crate::file::read_file;
-use crate::parse_stop::ParseStop;
+use crate::parse_stop::{ParseStop, Why};
 use crate::reader::Reader;
 use crate::scan::scan;
 use priz_base::{NoMem, Place};
@@ -42,15 +42,21 @@ pub fn parse<'a>(alloc: Global, text: &'a str) -> Result<File<'a>, ParseFault>
     let mut reader = Reader::new(alloc, &tokens);
     match read_file(&mut reader) {
         Ok(file) => Ok(file),
-        Err(ParseStop::Expected(left)) => match place_at(&tokens, left, fault) {
-            Ok(place) => Err(ParseFault::Expected(place)),
-            Err(fault) => Err(ParseFault::Lex(fault)),
-        },
-        Err(ParseStop::TooDeep(left)) => match place_at(&tokens, left, fault) {
-            Ok(place) => Err(ParseFault::TooDeep(place)),
+        Err(ParseStop::Wrong(why, left)) => match place_at(&tokens, left, fault) {
+            Ok(place) => Err(fault_by(why, place)),
             Err(fault) => Err(ParseFault::Lex(fault)),
         },
         Err(ParseStop::NoMem) => Err(ParseFault::NoMem),
+    }
+}
+
+// What is wrong with the token at this place.
+fn fault_by(why: Why, place: Place) -> ParseFault
+    ensures { result ≡ fault_by why place }
+{
+    match why {
+        Why::Unexpected => ParseFault::Expected(place),
+        Why::TooDeep => ParseFault::TooDeep(place),
     }
 }
 

@@ -1,12 +1,13 @@
 //! Tokens that are still to be read.
 ghost use Rattle.std.specs.Prelude.{◌≡◌, ◌<◌, pos, ◌≤ℤ◌, ◌<ℤ◌, drop, length, IfOk, OnOk};
-ghost use Rattle.utopist_parser.specs.declared.parse_stop.ParseStop.TheVariants as stop;
+ghost use Rattle.utopist_parser.specs.declared.parse_stop.ParseStop.TheVariants.{Wrong};
+ghost use Rattle.utopist_parser.specs.declared.parse_stop.Why.TheVariants.{Unexpected, TooDeep};
 ghost use Rattle.utopist_parser.specs.steps.Answers.{ReadBy};
 ghost use Rattle.utopist_parser.specs.steps.Single.{is_kind, is_word, is_mark, is_sub, fixed_at, word_at, mark_at, name_at, number_at, divisor_at, sub_at};
 ghost use Rattle.utopist_parser.specs.steps.Steps.{next, meets};
 ghost use Rattle.utopist_parser.specs.Symbols.{symbols};
 
-use crate::parse_stop::ParseStop;
+use crate::parse_stop::{ParseStop, Why};
 use priz_base::Place;
 use std::alloc::Global;
 use std::marker::Model;
@@ -71,16 +72,16 @@ impl<'t, 'a> Reader<'t, 'a> {
 
     /// The next token cannot stand here.
     pub fn expected(&self) -> ParseStop
-        ensures { result ≡ stop.Expected (length self.now) }
+        ensures { result ≡ Wrong Unexpected (length self.now) }
     {
-        ParseStop::Expected(self.rest.len())
+        ParseStop::Wrong(Why::Unexpected, self.rest.len())
     }
 
     /// With the next token the nesting is too deep.
     pub fn too_deep(&self) -> ParseStop
-        ensures { result ≡ stop.TooDeep (length self.now) }
+        ensures { result ≡ Wrong TooDeep (length self.now) }
     {
-        ParseStop::TooDeep(self.rest.len())
+        ParseStop::Wrong(Why::TooDeep, self.rest.len())
     }
 
     /// Passes the next token, if there is one.
@@ -98,7 +99,7 @@ impl<'t, 'a> Reader<'t, 'a> {
         ensures shorter { OnOk result (length self.new < length self.old) }
     {
         if !self.next_is(kind) {
-            return Err(ParseStop::Expected(self.rest.len()));
+            return Err(self.expected());
         }
         self.rest = &self.rest[1..];
         Ok(())
@@ -124,14 +125,14 @@ impl<'t, 'a> Reader<'t, 'a> {
         ensures shorter { OnOk result (length self.new < length self.old) }
     {
         let [first, rest @ ..] = self.rest else {
-            return Err(ParseStop::Expected(0));
+            return Err(self.expected());
         };
         match first.kind {
             Kind::Name => {
                 self.rest = rest;
                 Ok(Name::new(first.text, first.place()))
             }
-            _ => Err(ParseStop::Expected(self.rest.len())),
+            _ => Err(self.expected()),
         }
     }
 
@@ -142,14 +143,14 @@ impl<'t, 'a> Reader<'t, 'a> {
         ensures shorter { OnOk result (length self.new < length self.old) }
     {
         let [first, rest @ ..] = self.rest else {
-            return Err(ParseStop::Expected(0));
+            return Err(self.expected());
         };
         match first.kind {
             Kind::Number(n) if n >= 0 => {
                 self.rest = rest;
                 Ok(n)
             }
-            _ => Err(ParseStop::Expected(self.rest.len())),
+            _ => Err(self.expected()),
         }
     }
 
@@ -160,14 +161,14 @@ impl<'t, 'a> Reader<'t, 'a> {
         ensures shorter { OnOk result (length self.new < length self.old) }
     {
         let [first, rest @ ..] = self.rest else {
-            return Err(ParseStop::Expected(0));
+            return Err(self.expected());
         };
         match first.kind {
             Kind::Number(n) if n > 0 => {
                 self.rest = rest;
                 Ok(n)
             }
-            _ => Err(ParseStop::Expected(self.rest.len())),
+            _ => Err(self.expected()),
         }
     }
 
@@ -177,14 +178,14 @@ impl<'t, 'a> Reader<'t, 'a> {
         ensures shorter { OnOk result (length self.new < length self.old) }
     {
         let [first, rest @ ..] = self.rest else {
-            return Err(ParseStop::Expected(0));
+            return Err(self.expected());
         };
         match first.kind {
             Kind::Sub { k, out } if k >= 0 && out >= 0 => {
                 self.rest = rest;
                 Ok(((k, out), first.place()))
             }
-            _ => Err(ParseStop::Expected(self.rest.len())),
+            _ => Err(self.expected()),
         }
     }
 }

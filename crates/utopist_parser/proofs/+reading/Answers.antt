@@ -1,9 +1,7 @@
-use Rattle.std.proofs.Common.{ap, ◌∙◌, arith, Err}
-use Rattle.std.proofs.lemmas.List.{take_rest, length-drop}
+use Rattle.std.proofs.Common.{arith}
+use Rattle.std.proofs.lemmas.List.{length-drop}
 use Rattle.std.proofs.lemmas.Result.{err_from_is_err_and}
 use Rattle.utopist_syntax.specs.View.{tree_of}
-use Rattle.utopist_parser.specs.Symbols.{symbols}
-use Rattle.utopist_parser.specs.steps.Steps.{deep}
 use Rattle.utopist_parser.specs.steps.ReadingExpr.{operator_of, levels_within}
 use Rattle.utopist_parser.proofs.Operands.{fails, too_deep, goes_on, ends, lower, first_operand, no_operand, operand_below}
 use Rattle.utopist_parser.proofs.Arguments.{first_argument, no_argument, argument_fails, argument_on, arguments_end}

@@ -6,14 +6,15 @@ use Rattle.utopist_lexer.specs.declared.token.Token.{Token}
 use Rattle.utopist_lexer.specs.Scanning.{place_of}
 use Rattle.utopist_parser.specs.declared.parse_stop.ParseStop.{ParseStop}
 use Rattle.utopist_parser.specs.declared.parse_stop.ParseStop.TheVariants as stop
+use Rattle.utopist_parser.specs.declared.parser.ParseFault.{ParseFault}
+use Rattle.utopist_parser.specs.declared.parser.ParseFault.TheVariants as fault
 use Rattle.utopist_parser.specs.Symbols.{Symbol}
-use Rattle.utopist_parser.specs.steps.Steps.{Reading, StepOf, expected, deep}
+use Rattle.utopist_parser.specs.steps.Steps.{Reading, StepOf, Why, Unexpected, TooDeep}
 
 -- the reading fails so, or memory ran out
 abbrev pub Fails : {V : Type 0} → ParseStop → Reading V → Type 0
 Fails stop.NoMem read = Unit {0}
-Fails (stop.Expected left) read = read ≡ Err (expected, left)
-Fails (stop.TooDeep left) read = read ≡ Err (deep, left)
+Fails (stop.Wrong why left) read = read ≡ Err (why, left)
 
 -- what was returned, seen by view, is what reading gives, unless memory ran out
 abbrev pub Gives : {X V : Type 0} → (X → V × List Symbol) → Result X ParseStop → Reading V → Type 0
@@ -37,3 +38,8 @@ PlaceFrom (t ∷ ts) f found = found ≡ Ok (place_of t)
 -- the place where so many tokens are left
 abbrev pub PlaceOf : List Token → ℕ → Option LexFault → Result Place LexFault → Type 0
 PlaceOf ts left f found = PlaceFrom (drop (length ts - left) ts) f found
+
+-- what is wrong with the token at a place
+abbrev pub fault_by : Why → Place → ParseFault
+fault_by Unexpected p = fault.Expected p
+fault_by TooDeep p = fault.TooDeep p

@@ -18,7 +18,7 @@ use Rattle.utopist_parser.specs.declared.breadth.Breadth.TheVariants as breadth
 use Rattle.utopist_parser.specs.declared.group.Group.{Group}
 use Rattle.utopist_parser.specs.declared.group.Group.TheVariants as group
 use Rattle.utopist_parser.specs.Symbols.{Symbol}
-use Rattle.utopist_parser.specs.steps.Steps.{Reading, ReadOf, deep, StepOf, ◌>>=◌, on_ok, give, next, meets, choose_at, pick_at, deeper_at}
+use Rattle.utopist_parser.specs.steps.Steps.{Reading, ReadOf, TooDeep, StepOf, ◌>>=◌, on_ok, give, next, meets, choose_at, pick_at, deeper_at}
 use Rattle.utopist_parser.specs.steps.Single.{is_kind, is_word, is_mark, is_sub, fixed_at, word_at, mark_at, name_at, number_at, sub_at}
 use Rattle.utopist_parser.specs.steps.Lists.{separated_at, path_at}
 
@@ -47,11 +47,11 @@ op_over o v w = (op o v.0 w.0, suc (max v.1 w.1))
 -- behind an operand: an operator for which there is room, or none
 abbrev pub one_more : Option Op → ℕ → Nested → List Symbol → (Op → Reading Nested) → Reading Nested
 one_more None room v ts go_on = Ok (v, ts)
-one_more (Some o) room v ts go_on = if nat_le v.1 room then go_on o else Err (deep, length ts)
+one_more (Some o) room v ts go_on = if nat_le v.1 room then go_on o else Err (TooDeep, length ts)
 
 -- {OPERATOR operand}, grouped from the left, at most so many
 unfoldable pub more_at : (Option Symbol → Option Op) → ReadOf Nested → ℕ → ℕ → Nested → ReadOf Nested
-more_at find operand room zero v ts = one_more (find (next ts)) room v ts (λ o. Err (deep, length ts))
+more_at find operand room zero v ts = one_more (find (next ts)) room v ts (λ o. Err (TooDeep, length ts))
 more_at find operand room (suc k) v ts =
     one_more (find (next ts)) room v ts (λ o. on_ok (operand (drop 1 ts)) (λ x. more_at find operand room k (op_over o v x.0) x.1))
 
@@ -194,7 +194,7 @@ settled read room = read
 
 -- no room: the next symbol is too deep
 abbrev pub too_deep : ReadOf Nested
-too_deep ts = Err (deep, length ts)
+too_deep ts = Err (TooDeep, length ts)
 
 -- the readers where nothing may be nested
 abbrev pub no_levels : Levels

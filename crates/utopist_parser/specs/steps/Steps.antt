@@ -1,11 +1,8 @@
 -- Reading symbols in steps, each of which gives a value and what is left, or fails at a symbol.
 use Rattle.std.specs.Prelude.{ℕ, zero, suc, Bool, false, if◌then◌else◌, List, [], ◌∷◌, length, drop, Option, Some, None, Result, Ok, Err}
 use Rattle.utopist_parser.specs.Symbols.{Symbol}
-
--- why a reading fails: no form goes on with the symbol, or none within the limit on nesting
-pub data Why : Type 0 where
-  expected : Why
-  deep : Why
+pub use Rattle.utopist_parser.specs.declared.parse_stop.Why.{Why}
+pub use Rattle.utopist_parser.specs.declared.parse_stop.Why.TheVariants.{Unexpected, TooDeep}
 
 -- why, and how many symbols are left at the first wrong one
 abbrev pub Miss : Type 0
@@ -45,12 +42,12 @@ meets test (Some c) = test c
 
 -- the value of a symbol that was wanted
 abbrev pub token_value : {V : Type 0} → Option V → List Symbol → List Symbol → Reading V
-token_value None ts rest = Err (expected, length ts)
+token_value None ts rest = Err (Unexpected, length ts)
 token_value (Some v) ts rest = Ok (v, rest)
 
 -- one symbol that is wanted
 abbrev pub token_at : {V : Type 0} → (Symbol → Option V) → StepOf V
-token_at want room [] = Err (expected, 0)
+token_at want room [] = Err (Unexpected, 0)
 token_at want room (c ∷ cs) = token_value (want c) (c ∷ cs) cs
 
 -- the one or the other, by the next symbol
@@ -73,7 +70,7 @@ repeat_at begins f room ts = repeat_fuel begins (f room) (length ts) ts
 
 -- the value of the next symbol, which is wanted
 abbrev pub picked : {V : Type 0} → Option V → List Symbol → Reading V
-picked None ts = Err (expected, length ts)
+picked None ts = Err (Unexpected, length ts)
 picked (Some v) ts = Ok (v, drop 1 ts)
 
 -- one symbol that has a value
@@ -82,7 +79,7 @@ pick_at find room ts = picked (find (next ts)) ts
 
 -- one level below, where there is room for it; else the next symbol is too deep
 abbrev pub deeper : {V : Type 0} → ℕ → List Symbol → Reading V → Reading V
-deeper zero ts read = Err (deep, length ts)
+deeper zero ts read = Err (TooDeep, length ts)
 deeper (suc room) ts read = read
 
 -- what is one level deeper than its parts

@@ -1,4 +1,4 @@
-use Rattle.std.proofs.Common.{map, ap, arith}
+use Rattle.std.proofs.Common.{map, arith}
 use Rattle.std.proofs.lemmas.Result.{err_from_is_err_and}
 use Rattle.utopist_parser.proofs.Loops.{ends, fails}
 use Rattle.utopist_parser.proofs.Starts.{none_seen, seen_on}

@@ -1,7 +1,6 @@
 use Rattle.std.proofs.Common.{◌≤◌, List, length, Ok, Err, sym, subst}
 use Rattle.utopist_lexer.specs.declared.token.Token.{Token}
 use Rattle.utopist_syntax.specs.FileTree.{file_tree}
-use Rattle.utopist_parser.specs.steps.Steps.{expected, deep}
 use Rattle.utopist_parser.proofs.Shaped.{has_shape}
 use Rattle.utopist_parser.proofs.Sliced.{all_slices}
 use Rattle.utopist_parser.proofs.Whole.{tree_of, left_within, fault_some, fault_is}
@@ -20,38 +19,19 @@ returns-in-Ok-read_file-clause-slices c =
 
 pub place_at-requires-clause-within : goal.place_at-requires-clause-within
 place_at-requires-clause-within c =
-    subst (λ (l : List Token). c.in-Err-Expected.left ≤ length l) (sym c.deref-in-Err-Expected.ensures.value)
-    (left_within c.in-Ok.found.0.items expected c.in-Err-Expected.left (rw (c.new-reader.ensures, c.deref.ensures.value) at (rw c.in-Err-Expected.field-0-is at c.in-Err-Expected.ensures)))
+    subst (λ (l : List Token). c.in-Err-Wrong.left ≤ length l) (sym c.deref-in-Err-Wrong.ensures.value)
+    (left_within c.in-Ok.found.0.items c.in-Err-Wrong.why c.in-Err-Wrong.left (rw (c.new-reader.ensures, c.deref.ensures.value) at (rw c.in-Err-Wrong.field-0-is at c.in-Err-Wrong.ensures)))
 
 pub place_at-requires-clause-some : goal.place_at-requires-clause-some
 place_at-requires-clause-some c =
-    fault_some c.args.text.now c.in-Ok.found.0.items c.in-Ok.found.1 c.in-Ok.ensures expected c.in-Err-Expected.left (rw (c.new-reader.ensures, c.deref.ensures.value) at (rw c.in-Err-Expected.field-0-is at c.in-Err-Expected.ensures))
+    fault_some c.args.text.now c.in-Ok.found.0.items c.in-Ok.found.1 c.in-Ok.ensures c.in-Err-Wrong.why c.in-Err-Wrong.left (rw (c.new-reader.ensures, c.deref.ensures.value) at (rw c.in-Err-Wrong.field-0-is at c.in-Err-Wrong.ensures))
 
 pub returns-in-Ok-place_at-clause-tree : goal.returns-in-Ok-place_at-clause-tree
 returns-in-Ok-place_at-clause-tree c =
-    fault_is c.args.text.now c.in-Ok.found.0.items c.in-Ok.found.1 c.in-Ok.ensures expected c.in-Err-Expected.left (rw (c.new-reader.ensures, c.deref.ensures.value) at (rw c.in-Err-Expected.field-0-is at c.in-Err-Expected.ensures))
-    (Ok c.in-Ok-place_at.place) (rw c.deref-in-Err-Expected.ensures.value at c.in-Ok-place_at.ensures)
+    rw c.fault_by.ensures (fault_is c.args.text.now c.in-Ok.found.0.items c.in-Ok.found.1 c.in-Ok.ensures c.in-Err-Wrong.why c.in-Err-Wrong.left (rw (c.new-reader.ensures, c.deref.ensures.value) at (rw c.in-Err-Wrong.field-0-is at c.in-Err-Wrong.ensures))
+    (Ok c.in-Ok-place_at.place) (rw c.deref-in-Err-Wrong.ensures.value at c.in-Ok-place_at.ensures))
 
-pub returns-in-Err-Expected-clause-tree : goal.returns-in-Err-Expected-clause-tree
-returns-in-Err-Expected-clause-tree c =
-    fault_is c.args.text.now c.in-Ok.found.0.items c.in-Ok.found.1 c.in-Ok.ensures expected c.in-Err-Expected.left (rw (c.new-reader.ensures, c.deref.ensures.value) at (rw c.in-Err-Expected.field-0-is at c.in-Err-Expected.ensures))
-    (Err c.in-Err-place_at.fault) (rw c.deref-in-Err-Expected.ensures.value at c.in-Err-place_at.ensures)
-
-pub place_at-requires-in-Err-TooDeep-clause-within : goal.place_at-requires-in-Err-TooDeep-clause-within
-place_at-requires-in-Err-TooDeep-clause-within c =
-    subst (λ (l : List Token). c.in-Err-TooDeep.left ≤ length l) (sym c.deref-in-Err-TooDeep.ensures.value)
-    (left_within c.in-Ok.found.0.items deep c.in-Err-TooDeep.left (rw (c.new-reader.ensures, c.deref.ensures.value) at (rw c.in-Err-TooDeep.field-0-is at c.in-Err-TooDeep.ensures)))
-
-pub place_at-requires-in-Err-TooDeep-clause-some : goal.place_at-requires-in-Err-TooDeep-clause-some
-place_at-requires-in-Err-TooDeep-clause-some c =
-    fault_some c.args.text.now c.in-Ok.found.0.items c.in-Ok.found.1 c.in-Ok.ensures deep c.in-Err-TooDeep.left (rw (c.new-reader.ensures, c.deref.ensures.value) at (rw c.in-Err-TooDeep.field-0-is at c.in-Err-TooDeep.ensures))
-
-pub returns-in-Ok-place_at-2-clause-tree : goal.returns-in-Ok-place_at-2-clause-tree
-returns-in-Ok-place_at-2-clause-tree c =
-    fault_is c.args.text.now c.in-Ok.found.0.items c.in-Ok.found.1 c.in-Ok.ensures deep c.in-Err-TooDeep.left (rw (c.new-reader.ensures, c.deref.ensures.value) at (rw c.in-Err-TooDeep.field-0-is at c.in-Err-TooDeep.ensures))
-    (Ok c.in-Ok-place_at-2.place) (rw c.deref-in-Err-TooDeep.ensures.value at c.in-Ok-place_at-2.ensures)
-
-pub returns-in-Err-TooDeep-clause-tree : goal.returns-in-Err-TooDeep-clause-tree
-returns-in-Err-TooDeep-clause-tree c =
-    fault_is c.args.text.now c.in-Ok.found.0.items c.in-Ok.found.1 c.in-Ok.ensures deep c.in-Err-TooDeep.left (rw (c.new-reader.ensures, c.deref.ensures.value) at (rw c.in-Err-TooDeep.field-0-is at c.in-Err-TooDeep.ensures))
-    (Err c.in-Err-place_at-2.fault) (rw c.deref-in-Err-TooDeep.ensures.value at c.in-Err-place_at-2.ensures)
+pub returns-in-Err-Wrong-clause-tree : goal.returns-in-Err-Wrong-clause-tree
+returns-in-Err-Wrong-clause-tree c =
+    fault_is c.args.text.now c.in-Ok.found.0.items c.in-Ok.found.1 c.in-Ok.ensures c.in-Err-Wrong.why c.in-Err-Wrong.left (rw (c.new-reader.ensures, c.deref.ensures.value) at (rw c.in-Err-Wrong.field-0-is at c.in-Err-Wrong.ensures))
+    (Err c.in-Err-place_at.fault) (rw c.deref-in-Err-Wrong.ensures.value at c.in-Err-place_at.ensures)
