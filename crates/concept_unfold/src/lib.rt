@@ -16,10 +16,6 @@ mod loops;
 mod numbers;
 mod rules;
 mod scope;
-#[cfg(test)]
-mod tests;
-#[cfg(test)]
-mod tests_bodies;
 mod unfolding;
 
 pub use built::is_built;

@@ -7,6 +7,12 @@ mod problems;
 mod reading;
 #[cfg(test)]
 mod tests;
+#[cfg(test)]
+mod tests_limits;
+#[cfg(test)]
+mod tests_problems;
+#[cfg(test)]
+mod tests_rules;
 mod unbuilt;
 
 pub use fault::FileFault;

@@ -6,6 +6,7 @@ ghost use Rattle.file_accept.specs.steps.FormOf.{FormOf};
 
 use crate::fault::FileFault;
 use crate::unbuilt::first_unbuilt;
+use concept_unfold::is_built;
 use std::alloc::Global;
 use utopist_parser::parse;
 use utopist_syntax::File;
@@ -17,8 +18,11 @@ pub(crate) fn file_of<'a>(alloc: Global, text: &'a str) -> Result<File<'a>, File
     ensures shape { IfOk result (λ f. HasShape (file_tree f)) }
 {
     let file = parse(alloc, text)?;
+    if is_built(&file) {
+        return Ok(file);
+    }
     match first_unbuilt(text) {
         Some(place) => Err(FileFault::Expected(place)),
-        None => Ok(file),
+        None => unreachable!(),
     }
 }

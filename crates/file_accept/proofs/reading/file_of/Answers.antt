@@ -1,3 +1,4 @@
+use Rattle.std.proofs.Common.{sym, ◌∙◌}
 use Rattle.std.proofs.lemmas.Result.{err_from_is_err_and}
 use Rattle.file_accept.proofs.Steps.{no_tree, built_form, unbuilt_form}
 use Rattle.file_accept.proofs.reading.file_of.Goals as goal
@@ -7,8 +8,11 @@ returns-in_err-file-clause-form c =
     let p = err_from_is_err_and c.from_residual.result c.from_residual.ensures.1 in
     rw (p.1, p.2) (no_tree c.args.text.now c.in_err-file.field-0.0 c.in_err-file.ensures.tree)
 
-pub returns-in-Some-clause-form : goal.returns-in-Some-clause-form
-returns-in-Some-clause-form c = unbuilt_form c.args.text.now c.in_ok-file.file c.in-Some.place c.in_ok-file.ensures.tree c.in-Some.ensures
-
 pub returns-clause-form : goal.returns-clause-form
-returns-clause-form c = built_form c.args.text.now c.in_ok-file.file c.in_ok-file.ensures.tree c.in-None.ensures
+returns-clause-form c = unbuilt_form c.args.text.now c.in_ok-file.file c.in-Some.place c.in_ok-file.ensures.tree c.in-Some.ensures
+
+pub unreachable-requires : goal.unreachable-requires
+unreachable-requires c =
+    let built = (built_form c.args.text.now c.in_ok-file.file c.in_ok-file.ensures.tree c.in-None.ensures).1 in
+    let yes = c.is_built.ensures.1 built in
+    cc
