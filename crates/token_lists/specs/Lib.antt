@@ -1,0 +1,3 @@
+pub mod Next
+pub mod AllTokens
+pub mod TokensFrom
