@@ -1,7 +1,8 @@
 -- What is read, written as its canonical text writes it: with parentheses only where they are needed, and numbers in lowest terms.
 use Rattle.std.specs.Prelude.{ℕ, pred, ℤ, pos, negsuc, Bool, true, false, ◌==◌, if◌then◌else◌, unsigned_abs, map, Option, Some, None}
 use Rattle.priz_frac.specs.Ratio.{Ratio}
-use Rattle.utopist_parser.specs.Written.{OneOrMore, Expression, choice, plain, Chain, one_term, add, Term, one_factor, mul, Factor, negated, literal, variable, round, call, loop, Further, no_more, and_then}
+use Rattle.token_forms.specs.Lists.{OneOrMore}
+use Rattle.utopist_parser.specs.Written.{Expression, choice, plain, Chain, one_term, add, Term, one_factor, mul, Factor, negated, literal, variable, round, call, loop, Further, no_more, and_then}
 use Rattle.utopist_parser.specs.WrittenFile.{WrittenItem, var, eq, rel, WrittenConcept, WrittenNumber, WrittenGiven, WrittenCompute, WrittenFile}
 use Rattle.utopist_parser.specs.FileSeen.{see_value}
 

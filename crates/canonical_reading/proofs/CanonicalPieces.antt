@@ -11,15 +11,16 @@ use Rattle.utopist_syntax.specs.declared.position.Position.{Position}
 use Rattle.utopist_syntax.specs.declared.position.Position.TheVariants.{Alone, Compared, Negated, LeftOf, RightOf}
 use Rattle.utopist_syntax.specs.Named.{Named}
 use Rattle.utopist_syntax.specs.ExprTree as tree
-use Rattle.utopist_syntax.specs.ExprTree.{ExprTree, ExprTrees}
+use Rattle.utopist_syntax.specs.ExprTree.{ExprTree}
 use Rattle.utopist_syntax.specs.Round.{rounds_op}
-use Rattle.utopist_parser.specs.Symbols as symbols
-use Rattle.utopist_parser.specs.Symbols.{Symbol, end}
-use Rattle.utopist_parser.specs.Written.{OneOrMore, WrittenPath, Sign, plus, minus, Scale, times, over, Expression, choice, plain, Chain, one_term, add, Term, one_factor, mul, Factor, negated, literal, variable, round, call, loop, Further, no_more, and_then}
+use Rattle.token_forms.specs.Symbols as symbols
+use Rattle.token_forms.specs.Symbols.{Symbol, end}
+use Rattle.token_forms.specs.Lists.{OneOrMore, spell_option, all_of}
+use Rattle.utopist_parser.specs.Written.{WrittenPath, Sign, plus, minus, Scale, times, over, Expression, choice, plain, Chain, one_term, add, Term, one_factor, mul, Factor, negated, literal, variable, round, call, loop, Further, no_more, and_then}
 use Rattle.utopist_parser.specs.WrittenFile.{WrittenBind, WrittenKind, numeric, component, WrittenPart, input, subtask, WrittenItem, var, eq, rel, WrittenConcept, WrittenNumber, WrittenGiven, WrittenCompute, WrittenFile}
 use Rattle.utopist_parser.specs.ExprSymbols.{spell_name, spell_path, sign_mark, scale_mark, cmp_mark, loop_word, spell_expr, spell_chain, spell_term, spell_factor, spell_exprs}
-use Rattle.utopist_parser.specs.FileSymbols.{spell_option, spell_names, spell_paths, spell_bind, spell_binds, spell_kind, spell_part, spell_parts, spell_body, spell_item, spell_parents, spell_concept, spell_below, spell_minus, spell_value, spell_given, spell_givens, spell_compute, spell_file}
-use Rattle.utopist_parser.specs.ExprTree.{all_of, sign_op, scale_op, see_expr, see_chain, see_term, see_factor, see_exprs}
+use Rattle.utopist_parser.specs.FileSymbols.{spell_names, spell_paths, spell_bind, spell_binds, spell_kind, spell_part, spell_parts, spell_body, spell_item, spell_parents, spell_concept, spell_below, spell_minus, spell_value, spell_given, spell_givens, spell_compute, spell_file}
+use Rattle.utopist_parser.specs.ExprTree.{sign_op, scale_op, see_expr, see_chain, see_term, see_factor, see_exprs}
 use Rattle.utopist_parser.specs.FileSeen.{all_if_any, see_option, see_path, see_bind, see_kind, see_binds, see_part, see_item, see_concept, see_value, see_given, see_compute, see_file}
 use Rattle.utopist_parser.specs.Arithmetic.{IsArithExpr, IsArith, IsArithTerm, IsArithFactor}
 use Rattle.utopist_parser.specs.FileNesting.{IsItem, IsConcept, IsFile}

@@ -9,9 +9,10 @@ use Rattle.priz_frac.proofs.Unique.{low-same_iff, low_is_same}
 use Rattle.utopist_syntax.specs.ExprTree as tree
 use Rattle.utopist_syntax.specs.ExprTree.{ExprTree}
 use Rattle.utopist_syntax.specs.FileTree as trees
-use Rattle.utopist_parser.specs.Written.{OneOrMore, Expression, choice, plain, Chain, one_term, add, Term, one_factor, mul, Factor, negated, literal, variable, round, call, loop, Further, no_more, and_then}
+use Rattle.token_forms.specs.Lists.{OneOrMore, all_of}
+use Rattle.utopist_parser.specs.Written.{Expression, choice, plain, Chain, one_term, add, Term, one_factor, mul, Factor, negated, literal, variable, round, call, loop, Further, no_more, and_then}
 use Rattle.utopist_parser.specs.WrittenFile.{WrittenItem, var, eq, rel, WrittenConcept, WrittenNumber, WrittenGiven, WrittenCompute, WrittenFile}
-use Rattle.utopist_parser.specs.ExprTree.{sign_op, scale_op, all_of, see_expr, see_chain, see_term, see_factor, see_exprs}
+use Rattle.utopist_parser.specs.ExprTree.{sign_op, scale_op, see_expr, see_chain, see_term, see_factor, see_exprs}
 use Rattle.utopist_parser.specs.FileSeen.{all_if_any, see_option, see_path, see_part, see_item, see_concept, denominator, see_value, see_given, see_compute, see_file}
 use Rattle.canonical_reading.proofs.CanonicalForm.{Forms, of_factor, of_term, of_chain, of_expr, canonical_expr, canonical_chain, canonical_term, canonical_factor, canonical_exprs, canonical_option, canonical_parts, canonical_body, canonical_item, canonical_concept, has_minus, written_below, written_ratio, canonical_value, canonical_given, canonical_compute, canonical_file}
 

@@ -14,13 +14,14 @@ use Rattle.utopist_lexer.specs.declared.word.Word.TheVariants as words
 use Rattle.utopist_lexer.specs.Lexical.{max_number}
 use Rattle.utopist_syntax.specs.Named.{Named}
 use Rattle.utopist_syntax.specs.FileTree.{FileTree}
-use Rattle.utopist_parser.specs.Symbols.{Symbol, symbol_of, end}
+use Rattle.token_forms.specs.Symbols.{Symbol, symbol_of, end}
 use Rattle.utopist_parser.specs.Written as written
 use Rattle.utopist_parser.specs.Written.{WrittenPath, Expression}
 use Rattle.utopist_parser.specs.WrittenFile.{WrittenBind, WrittenKind, numeric, component, WrittenPart, input, subtask, WrittenItem, var, eq, rel, WrittenConcept, WrittenNumber, WrittenGiven, WrittenCompute, WrittenFile}
 use Rattle.utopist_parser.specs.ExprSymbols.{spell_name, spell_path}
-use Rattle.utopist_parser.specs.ExprTree.{all_of, see_expr}
-use Rattle.utopist_parser.specs.FileSymbols.{spell_option, spell_names, spell_paths, spell_bind, spell_binds, spell_kind, spell_part, spell_parts, spell_body, spell_item, spell_parents, spell_concept, spell_below, spell_minus, spell_value, spell_given, spell_givens, spell_compute, spell_file}
+use Rattle.token_forms.specs.Lists.{OneOrMore, all_of, spell_option}
+use Rattle.utopist_parser.specs.ExprTree.{see_expr}
+use Rattle.utopist_parser.specs.FileSymbols.{spell_names, spell_paths, spell_bind, spell_binds, spell_kind, spell_part, spell_parts, spell_body, spell_item, spell_parents, spell_concept, spell_below, spell_minus, spell_value, spell_given, spell_givens, spell_compute, spell_file}
 use Rattle.utopist_parser.specs.FileSeen.{all_if_any, see_option, see_path, see_bind, see_kind, see_binds, see_part, see_item, see_concept, denominator, see_value, see_given, see_compute, see_file}
 use Rattle.utopist_parser.specs.Forms.{ReadsAs}
 use Rattle.canonical_reading.proofs.PrintableParts.{SomeAndAll, PrintableName, PrintableNames, PrintablePath, PrintableKind, PrintableBind, PrintablePart, PrintableBody, PrintableItem, PrintableConcept, PrintableFraction, PrintableValue, PrintableGiven, PrintableCompute, PrintableFile}
@@ -30,23 +31,23 @@ use Rattle.canonical_reading.proofs.ReadableExpr.{GoodGives, nothing, both, fixe
 -- ---- forms that may be left out
 
 -- one or more of what is seen
-parts_seen : {X V : Type 0} (see : X → V) (P : V → Type 0) (xs : written.OneOrMore X) → SomeAndAll (λ x. P (see x)) (all_of xs) → SomeAndAll P (map see (all_of xs))
+parts_seen : {X V : Type 0} (see : X → V) (P : V → Type 0) (xs : OneOrMore X) → SomeAndAll (λ x. P (see x)) (all_of xs) → SomeAndAll P (map see (all_of xs))
 parts_seen see P xs h = (h.0, all_seen see P xs.more h.1)
 
 -- the parts, where there are any
-if_any : {X : Type 0} (spell : written.OneOrMore X → List Symbol) (P : X → Type 0) → ((xs : written.OneOrMore X) → GoodGives (spell xs) (SomeAndAll P (all_of xs)))
-    → (o : Option (written.OneOrMore X)) → GoodGives (spell_option spell o) (AllByRecursion P (all_if_any o))
+if_any : {X : Type 0} (spell : OneOrMore X → List Symbol) (P : X → Type 0) → ((xs : OneOrMore X) → GoodGives (spell xs) (SomeAndAll P (all_of xs)))
+    → (o : Option (OneOrMore X)) → GoodGives (spell_option spell o) (AllByRecursion P (all_if_any o))
 if_any spell P h None = form (λ _. tt) nothing
 if_any spell P h (Some xs) = form (λ p. p) (h xs)
 
 -- ---- items
 
 -- names joined by commas
-names_readable : (ns : written.OneOrMore Named) → GoodGives (spell_names ns) (PrintableNames (all_of ns))
+names_readable : (ns : OneOrMore Named) → GoodGives (spell_names ns) (PrintableNames (all_of ns))
 names_readable ns = parted marks.Comma spell_name PrintableName name_readable ns
 
 -- paths joined by commas
-paths_readable : (ps : written.OneOrMore WrittenPath) → GoodGives (spell_paths ps) (SomeAndAll PrintablePath (map see_path (all_of ps)))
+paths_readable : (ps : OneOrMore WrittenPath) → GoodGives (spell_paths ps) (SomeAndAll PrintablePath (map see_path (all_of ps)))
 paths_readable ps = form (λ h. parts_seen see_path PrintablePath ps h) (parted marks.Comma spell_path (λ p. PrintablePath (see_path p)) path_readable ps)
 
 -- a binding
@@ -54,7 +55,7 @@ bind_readable : (b : WrittenBind) → GoodGives (spell_bind b) (PrintableBind (s
 bind_readable b = form (λ p. p) (both (path_readable b.left) (fixed_then (kinds.Mark marks.Equal) (path_readable b.right)))
 
 -- bindings in parentheses
-binds_readable : (bs : written.OneOrMore WrittenBind) → GoodGives (spell_binds bs) (SomeAndAll (λ b. PrintableBind (see_bind b)) (all_of bs))
+binds_readable : (bs : OneOrMore WrittenBind) → GoodGives (spell_binds bs) (SomeAndAll (λ b. PrintableBind (see_bind b)) (all_of bs))
 binds_readable bs =
     form (λ p. p.0)
     (fixed_then (kinds.Mark marks.OpenRound) (both (parted marks.Comma spell_bind (λ b. PrintableBind (see_bind b)) bind_readable bs) (fixed_then (kinds.Mark marks.CloseRound) nothing)))
@@ -73,7 +74,7 @@ part_readable (subtask inputs outputs) =
     (fixed_then (kinds.Mark marks.OpenSquare) (both (paths_readable inputs) (fixed_then (kinds.Mark marks.Arrow) (both (paths_readable outputs) (fixed_then (kinds.Mark marks.CloseSquare) nothing)))))
 
 -- parts joined by commas
-parts_readable : (ps : written.OneOrMore WrittenPart) → GoodGives (spell_parts ps) (SomeAndAll (λ p. PrintablePart (see_part p)) (all_of ps))
+parts_readable : (ps : OneOrMore WrittenPart) → GoodGives (spell_parts ps) (SomeAndAll (λ p. PrintablePart (see_part p)) (all_of ps))
 parts_readable ps = parted marks.Comma spell_part (λ p. PrintablePart (see_part p)) part_readable ps
 
 -- a body, where there is one
@@ -96,7 +97,7 @@ item_readable (rel n parts output body) =
 -- ---- concepts
 
 -- parents
-parents_readable : (ns : written.OneOrMore Named) → GoodGives (spell_parents ns) (PrintableNames (all_of ns))
+parents_readable : (ns : OneOrMore Named) → GoodGives (spell_parents ns) (PrintableNames (all_of ns))
 parents_readable ns = form (λ p. p) (fixed_then (kinds.Word words.Is) (names_readable ns))
 
 -- a concept
@@ -153,7 +154,7 @@ given_readable : (g : WrittenGiven) → GoodGives (spell_given g) (PrintableGive
 given_readable g = form (λ p. p) (both (path_readable g.path) (value_readable g.value))
 
 -- what is given
-givens_readable : (gs : written.OneOrMore WrittenGiven) → GoodGives (spell_givens gs) (SomeAndAll (λ g. PrintableGiven (see_given g)) (all_of gs))
+givens_readable : (gs : OneOrMore WrittenGiven) → GoodGives (spell_givens gs) (SomeAndAll (λ g. PrintableGiven (see_given g)) (all_of gs))
 givens_readable gs =
     form (λ p. p.0) (fixed_then (kinds.Word words.Given) (both (parted marks.Comma spell_given (λ g. PrintableGiven (see_given g)) given_readable gs) (fixed_then (kinds.Mark marks.Semicolon) nothing)))
 

@@ -9,11 +9,12 @@ use Rattle.utopist_lexer.specs.declared.token.Kind.{Kind}
 use Rattle.utopist_lexer.specs.declared.token.Kind.TheVariants as kinds
 use Rattle.utopist_lexer.specs.declared.word.Word.TheVariants as words
 use Rattle.utopist_syntax.specs.Named.{Named}
-use Rattle.utopist_parser.specs.Symbols.{Symbol, name, sub, fixed, number}
+use Rattle.token_forms.specs.Symbols.{Symbol, name, sub, fixed, number}
 use Rattle.utopist_parser.specs.Written as written
 use Rattle.utopist_parser.specs.Written.{WrittenPath, Expression, choice, plain, Chain, one_term, add, Term, one_factor, mul, Factor, negated, literal, variable, round, call, loop, Further, no_more, and_then}
-use Rattle.utopist_parser.specs.ExprSymbols.{behind, separated, spell_name, spell_path, sign_mark, scale_mark, cmp_mark, loop_word, spell_expr, spell_chain, spell_term, spell_factor, spell_exprs}
-use Rattle.utopist_parser.specs.ExprTree.{all_of, see_expr, see_chain, see_term, see_factor, see_exprs}
+use Rattle.token_forms.specs.Lists.{OneOrMore, behind, separated, all_of}
+use Rattle.utopist_parser.specs.ExprSymbols.{spell_name, spell_path, sign_mark, scale_mark, cmp_mark, loop_word, spell_expr, spell_chain, spell_term, spell_factor, spell_exprs}
+use Rattle.utopist_parser.specs.ExprTree.{see_expr, see_chain, see_term, see_factor, see_exprs}
 use Rattle.canonical_reading.proofs.PrintableParts.{SomeAndAll, PrintableName, PrintableNames, PrintableNumber, PrintableTree, PrintableTrees}
 use Rattle.canonical_reading.proofs.GoodSymbols.{AllGood, good_parts}
 
@@ -56,7 +57,7 @@ many spell P h (x ∷ xs) = form (λ p. p) (both (h x) (many spell P h xs))
 
 -- part {SEPARATOR part}
 pub parted : {X : Type 0} (m : Mark) (spell : X → List Symbol) (P : X → Type 0) → ((x : X) → GoodGives (spell x) (P x))
-    → (xs : written.OneOrMore X) → GoodGives (separated m spell xs) (SomeAndAll P (all_of xs))
+    → (xs : OneOrMore X) → GoodGives (separated m spell xs) (SomeAndAll P (all_of xs))
 parted m spell P h xs = form (λ p. p) (both (h xs.first) (many (behind m spell) P (λ x. fixed_then (kinds.Mark m) (h x)) xs.more))
 
 -- what holds of what is seen of each

@@ -7,7 +7,7 @@ use Rattle.utopist_lexer.specs.Lexical.{Tok}
 use Rattle.utopist_lexer.specs.Places.{first_place}
 use Rattle.utopist_syntax.specs.declared.file.File.{File}
 use Rattle.utopist_syntax.specs.FileTree.{file_tree}
-use Rattle.utopist_parser.specs.Symbols.{Symbol, symbol_of, end}
+use Rattle.token_forms.specs.Symbols.{Symbol, symbol_of, end}
 use Rattle.utopist_parser.specs.FileSymbols.{spell_file}
 use Rattle.utopist_parser.specs.FileSeen.{see_file}
 use Rattle.utopist_parser.specs.Begins.{max_nesting}

@@ -6,11 +6,9 @@ use Rattle.std.proofs.lemmas.List.Elements.{All-head, All-tail}
 use Rattle.std.proofs.lemmas.List.Folds.{flat_map-map}
 use Rattle.utopist_lexer.specs.declared.mark.Mark.{Mark}
 use Rattle.utopist_lexer.specs.declared.mark.Mark.TheVariants as marks
-use Rattle.utopist_parser.specs.Symbols as symbols
-use Rattle.utopist_parser.specs.Symbols.{Symbol}
-use Rattle.utopist_parser.specs.Written.{OneOrMore}
-use Rattle.utopist_parser.specs.ExprSymbols.{behind, separated}
-use Rattle.utopist_parser.specs.ExprTree.{all_of}
+use Rattle.token_forms.specs.Symbols as symbols
+use Rattle.token_forms.specs.Symbols.{Symbol}
+use Rattle.token_forms.specs.Lists.{OneOrMore, behind, separated, all_of}
 use Rattle.canonical_reading.specs.Piece.{Piece, mark_piece}
 use Rattle.canonical_reading.specs.ExprPieces.{round_pieces}
 use Rattle.canonical_reading.proofs.SymbolPiece.{symbol_piece}

@@ -2,8 +2,8 @@
 use Rattle.std.specs.Prelude.{[]}
 use Rattle.utopist_lexer.specs.declared.token.Kind.{Kind}
 use Rattle.utopist_lexer.specs.declared.token.Kind.TheVariants as kinds
-use Rattle.utopist_parser.specs.Symbols as symbols
-use Rattle.utopist_parser.specs.Symbols.{Symbol}
+use Rattle.token_forms.specs.Symbols as symbols
+use Rattle.token_forms.specs.Symbols.{Symbol}
 use Rattle.canonical_reading.specs.Piece.{Piece, word_piece, mark_piece, name_piece, number_piece, sub_piece}
 
 -- the piece of a token of this kind; a name has its text from elsewhere, and the end of the text has none

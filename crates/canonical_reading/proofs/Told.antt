@@ -5,13 +5,14 @@ use Rattle.std.specs.List.{AllByRecursion, flat_map}
 use Rattle.utopist_lexer.specs.declared.mark.Mark.TheVariants as marks
 use Rattle.utopist_lexer.specs.declared.word.Word.TheVariants as words
 use Rattle.utopist_syntax.specs.Named.{Named}
-use Rattle.utopist_parser.specs.Symbols.{Symbol, mark}
+use Rattle.token_forms.specs.Symbols.{Symbol, mark}
 use Rattle.utopist_parser.specs.Written as written
 use Rattle.utopist_parser.specs.Written.{WrittenPath, Expression}
 use Rattle.utopist_parser.specs.WrittenFile.{WrittenBind, WrittenKind, numeric, component, WrittenPart, input, subtask, WrittenItem, var, eq, rel, WrittenConcept, WrittenNumber, WrittenGiven, WrittenCompute, WrittenFile}
 use Rattle.utopist_parser.specs.ExprSymbols.{spell_name, spell_path}
-use Rattle.utopist_parser.specs.ExprTree.{all_of, see_expr}
-use Rattle.utopist_parser.specs.FileSymbols.{spell_option, spell_names, spell_paths, spell_bind, spell_binds, spell_kind, spell_part, spell_parts, spell_body, spell_item, spell_parents, spell_concept, spell_below, spell_minus, spell_value, spell_given, spell_givens, spell_compute, spell_file}
+use Rattle.token_forms.specs.Lists.{OneOrMore, all_of, spell_option}
+use Rattle.utopist_parser.specs.ExprTree.{see_expr}
+use Rattle.utopist_parser.specs.FileSymbols.{spell_names, spell_paths, spell_bind, spell_binds, spell_kind, spell_part, spell_parts, spell_body, spell_item, spell_parents, spell_concept, spell_below, spell_minus, spell_value, spell_given, spell_givens, spell_compute, spell_file}
 use Rattle.utopist_parser.specs.FileSeen.{all_if_any, see_option, see_path, see_bind, see_kind, see_binds, see_part, see_item, see_concept, see_given, see_compute, see_file}
 use Rattle.canonical_reading.proofs.PrintableParts.{SomeAndAll, PrintableName, PrintableNames, PrintablePath, PrintableKind, PrintableBind, PrintablePart, PrintableBody, PrintableItem, PrintableConcept, PrintableGiven, PrintableCompute, PrintableFile}
 use Rattle.canonical_reading.proofs.ToldExpr.{Told, before, nothing, a_word, a_mark, a_number, a_name, the_end, many, parted, name_told, path_told, expr_told, chain_told}
@@ -29,18 +30,18 @@ many_seen : {X V : Type 0} (spell : X → List Symbol) (see : X → V) (P : V �
 many_seen spell see P h xs a = many spell (λ x. P (see x)) h xs (each_seen see P xs a)
 
 -- one or more of them
-one_or_more_seen : {X V : Type 0} (see : X → V) (P : V → Type 0) (xs : written.OneOrMore X) → SomeAndAll P (map see (all_of xs)) → SomeAndAll (λ x. P (see x)) (all_of xs)
+one_or_more_seen : {X V : Type 0} (see : X → V) (P : V → Type 0) (xs : OneOrMore X) → SomeAndAll P (map see (all_of xs)) → SomeAndAll (λ x. P (see x)) (all_of xs)
 one_or_more_seen see P xs a = (a.0, each_seen see P xs.more a.1)
 
 -- parts that may be left out
-if_any : {X : Type 0} (spell : written.OneOrMore X → List Symbol) (P : X → Type 0) → ((xs : written.OneOrMore X) → SomeAndAll P (all_of xs) → Told (spell xs))
-    → (o : Option (written.OneOrMore X)) → AllByRecursion P (all_if_any o) → Told (spell_option spell o)
+if_any : {X : Type 0} (spell : OneOrMore X → List Symbol) (P : X → Type 0) → ((xs : OneOrMore X) → SomeAndAll P (all_of xs) → Told (spell xs))
+    → (o : Option (OneOrMore X)) → AllByRecursion P (all_if_any o) → Told (spell_option spell o)
 if_any spell P h None a = nothing
 if_any spell P h (Some xs) a = h xs a
 
 -- parts that may be left out, of which what is seen can be printed
-if_any_seen : {X V : Type 0} (spell : written.OneOrMore X → List Symbol) (see : X → V) (P : V → Type 0)
-    → ((xs : written.OneOrMore X) → SomeAndAll (λ x. P (see x)) (all_of xs) → Told (spell xs)) → (o : Option (written.OneOrMore X)) → AllByRecursion P (map see (all_if_any o)) → Told (spell_option spell o)
+if_any_seen : {X V : Type 0} (spell : OneOrMore X → List Symbol) (see : X → V) (P : V → Type 0)
+    → ((xs : OneOrMore X) → SomeAndAll (λ x. P (see x)) (all_of xs) → Told (spell xs)) → (o : Option (OneOrMore X)) → AllByRecursion P (map see (all_if_any o)) → Told (spell_option spell o)
 if_any_seen spell see P h None a = nothing
 if_any_seen spell see P h (Some xs) a = h xs (one_or_more_seen see P xs a)
 
@@ -51,11 +52,11 @@ semicolon : Told (mark marks.Semicolon ∷ [])
 semicolon = a_mark marks.Semicolon nothing
 
 -- names joined by commas
-names_told : (ns : written.OneOrMore Named) → PrintableNames (all_of ns) → Told (spell_names ns)
+names_told : (ns : OneOrMore Named) → PrintableNames (all_of ns) → Told (spell_names ns)
 names_told ns h = parted marks.Comma spell_name PrintableName name_told ns h
 
 -- paths joined by commas
-paths_told : (ps : written.OneOrMore WrittenPath) → SomeAndAll PrintablePath (map see_path (all_of ps)) → Told (spell_paths ps)
+paths_told : (ps : OneOrMore WrittenPath) → SomeAndAll PrintablePath (map see_path (all_of ps)) → Told (spell_paths ps)
 paths_told ps h = parted marks.Comma spell_path (λ p. PrintablePath (see_path p)) path_told ps (one_or_more_seen see_path PrintablePath ps h)
 
 -- a binding
@@ -63,7 +64,7 @@ bind_told : (b : WrittenBind) → PrintableBind (see_bind b) → Told (spell_bin
 bind_told b h = before (path_told b.left h.0) (a_mark marks.Equal (path_told b.right h.1))
 
 -- bindings in parentheses
-binds_told : (bs : written.OneOrMore WrittenBind) → SomeAndAll (λ b. PrintableBind (see_bind b)) (all_of bs) → Told (spell_binds bs)
+binds_told : (bs : OneOrMore WrittenBind) → SomeAndAll (λ b. PrintableBind (see_bind b)) (all_of bs) → Told (spell_binds bs)
 binds_told bs h = a_mark marks.OpenRound (before (parted marks.Comma spell_bind (λ b. PrintableBind (see_bind b)) bind_told bs h) (a_mark marks.CloseRound nothing))
 
 -- a kind and its bindings
@@ -78,7 +79,7 @@ part_told (subtask inputs outputs) h =
     a_mark marks.OpenSquare (before (paths_told inputs h.0) (a_mark marks.Arrow (before (paths_told outputs h.1) (a_mark marks.CloseSquare nothing))))
 
 -- parts joined by commas
-parts_told : (ps : written.OneOrMore WrittenPart) → SomeAndAll (λ p. PrintablePart (see_part p)) (all_of ps) → Told (spell_parts ps)
+parts_told : (ps : OneOrMore WrittenPart) → SomeAndAll (λ p. PrintablePart (see_part p)) (all_of ps) → Told (spell_parts ps)
 parts_told ps h = parted marks.Comma spell_part (λ p. PrintablePart (see_part p)) part_told ps h
 
 -- a body, where there is one
@@ -96,7 +97,7 @@ item_told (rel n parts output body) h =
 -- ---- concepts
 
 -- parents
-parents_told : (ns : written.OneOrMore Named) → PrintableNames (all_of ns) → Told (spell_parents ns)
+parents_told : (ns : OneOrMore Named) → PrintableNames (all_of ns) → Told (spell_parents ns)
 parents_told ns h = a_word words.Is (names_told ns h)
 
 -- a concept
@@ -126,7 +127,7 @@ given_told : (g : WrittenGiven) → PrintableGiven (see_given g) → Told (spell
 given_told g h = before (path_told g.path h.0) (value_told g.value)
 
 -- what is given
-givens_told : (gs : written.OneOrMore WrittenGiven) → SomeAndAll (λ g. PrintableGiven (see_given g)) (all_of gs) → Told (spell_givens gs)
+givens_told : (gs : OneOrMore WrittenGiven) → SomeAndAll (λ g. PrintableGiven (see_given g)) (all_of gs) → Told (spell_givens gs)
 givens_told gs h = a_word words.Given (before (parted marks.Comma spell_given (λ g. PrintableGiven (see_given g)) given_told gs h) semicolon)
 
 -- a compute statement

@@ -12,11 +12,12 @@ use Rattle.utopist_lexer.specs.declared.word.Word.{Word}
 use Rattle.utopist_lexer.specs.declared.word.Word.TheVariants as words
 use Rattle.utopist_lexer.specs.Lexical.{Tok}
 use Rattle.utopist_syntax.specs.Named.{Named}
-use Rattle.utopist_parser.specs.Symbols.{Symbol, name, sub, number, word, mark, end, symbol_at, symbol_of}
+use Rattle.token_forms.specs.Symbols.{Symbol, name, sub, number, word, mark, end, symbol_at, symbol_of}
 use Rattle.utopist_parser.specs.Written as written
 use Rattle.utopist_parser.specs.Written.{WrittenPath, Expression, choice, plain, Chain, one_term, add, Term, one_factor, mul, Factor, negated, literal, variable, round, call, loop, Further, no_more, and_then}
-use Rattle.utopist_parser.specs.ExprSymbols.{behind, separated, spell_name, spell_path, sign_mark, scale_mark, cmp_mark, loop_word, spell_expr, spell_chain, spell_term, spell_factor, spell_exprs}
-use Rattle.utopist_parser.specs.ExprTree.{all_of, see_expr, see_chain, see_term, see_factor, see_exprs}
+use Rattle.token_forms.specs.Lists.{OneOrMore, behind, separated, all_of}
+use Rattle.utopist_parser.specs.ExprSymbols.{spell_name, spell_path, sign_mark, scale_mark, cmp_mark, loop_word, spell_expr, spell_chain, spell_term, spell_factor, spell_exprs}
+use Rattle.utopist_parser.specs.ExprTree.{see_expr, see_chain, see_term, see_factor, see_exprs}
 use Rattle.canonical_reading.specs.Piece.{Piece, piece_of}
 use Rattle.canonical_reading.proofs.SymbolPiece.{symbol_piece}
 use Rattle.canonical_reading.proofs.Likeness.{IsLike, AreLike}
@@ -98,7 +99,7 @@ many spell P h (x ∷ xs) a = before (h x a.0) (many spell P h xs a.1)
 
 -- part {SEPARATOR part}
 pub parted : {X : Type 0} (m : Mark) (spell : X → List Symbol) (P : X → Type 0) → ((x : X) → P x → Told (spell x))
-    → (xs : written.OneOrMore X) → SomeAndAll P (all_of xs) → Told (separated m spell xs)
+    → (xs : OneOrMore X) → SomeAndAll P (all_of xs) → Told (separated m spell xs)
 parted m spell P h xs a = before (h xs.first a.0) (many (behind m spell) P (λ x b. a_mark m (h x b)) xs.more a.1)
 
 -- tokens with the pieces of such symbols have symbols like them

@@ -8,32 +8,33 @@ use Rattle.body_lang.specs.declared.loop_kind.LoopKind.{LoopKind}
 use Rattle.body_lang.specs.declared.loop_kind.LoopKind.TheVariants as loops
 use Rattle.utopist_lexer.specs.declared.word.Word.TheVariants as words
 use Rattle.utopist_lexer.specs.declared.mark.Mark.TheVariants as marks
-use Rattle.utopist_parser.specs.Symbols.{sub}
+use Rattle.token_forms.specs.Symbols.{sub}
 use Rattle.utopist_parser.specs.Written.{Sign, plus, minus, Scale, times, over, Expression, choice, plain, Chain, one_term, add, Term, one_factor, mul, Factor, negated, literal, variable, round, call, loop}
 use Rattle.utopist_parser.specs.ExprSymbols.{sign_mark, scale_mark, cmp_mark, loop_word, spell_expr, spell_chain, spell_term, spell_factor}
 use Rattle.utopist_parser.specs.ExprTree.{see_expr, see_chain, see_term, see_factor}
-use Rattle.utopist_parser.specs.FileSymbols.{spell_option, spell_body}
+use Rattle.token_forms.specs.Lists.{spell_option}
+use Rattle.utopist_parser.specs.FileSymbols.{spell_body}
 use Rattle.utopist_parser.specs.FileSeen.{see_option}
 use Rattle.concept_unfold.specs.Built.{IsBuiltExpr, IsBuiltBody}
-use Rattle.file_accept.specs.Unbuilt.{word_opens, mark_opens, is_var}
+use Rattle.file_accept.specs.Unbuilt.{not_solved, word_opens, mark_opens, is_var}
 use Rattle.file_accept.proofs.Watched.{Watched, recast, nothing, a_word, a_mark, a_number, a_name, an_opener, both, before, path_watched}
 
 -- ---- operators
 
-sign_closed : (s : Sign) → mark_opens (sign_mark s) ≡ false
+sign_closed : (s : Sign) → mark_opens not_solved (sign_mark s) ≡ false
 sign_closed plus = refl
 sign_closed minus = refl
 
-scale_closed : (s : Scale) → mark_opens (scale_mark s) ≡ false
+scale_closed : (s : Scale) → mark_opens not_solved (scale_mark s) ≡ false
 scale_closed times = refl
 scale_closed over = refl
 
-cmp_closed : (c : Cmp) → mark_opens (cmp_mark c) ≡ false
+cmp_closed : (c : Cmp) → mark_opens not_solved (cmp_mark c) ≡ false
 cmp_closed cmps.Less = refl
 cmp_closed cmps.AtMost = refl
 cmp_closed cmps.Same = refl
 
-loop_closed : (k : LoopKind) → word_opens (loop_word k) ≡ false
+loop_closed : (k : LoopKind) → word_opens not_solved (loop_word k) ≡ false
 loop_closed loops.Sum = refl
 loop_closed loops.Prod = refl
 loop_closed loops.Iter = refl

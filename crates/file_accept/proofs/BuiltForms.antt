@@ -7,15 +7,15 @@ use Rattle.utopist_lexer.specs.declared.word.Word.TheVariants as words
 use Rattle.utopist_lexer.specs.declared.mark.Mark.TheVariants as marks
 use Rattle.utopist_syntax.specs.declared.item.VarKind.TheVariants as var_kinds
 use Rattle.utopist_syntax.specs.Named.{Named}
-use Rattle.utopist_parser.specs.Symbols.{Symbol, word, mark, end}
-use Rattle.utopist_parser.specs.Written.{OneOrMore}
+use Rattle.token_forms.specs.Symbols.{Symbol, word, mark, end}
+use Rattle.token_forms.specs.Lists.{OneOrMore, behind as next_of, spell_option}
 use Rattle.utopist_parser.specs.WrittenFile.{numeric, component, WrittenPart, input, subtask, WrittenItem, var, eq, rel, WrittenConcept, WrittenGiven, WrittenNumber, WrittenCompute, WrittenFile}
-use Rattle.utopist_parser.specs.ExprSymbols.{behind as next_of, spell_name, spell_path}
-use Rattle.utopist_parser.specs.FileSymbols.{spell_option, spell_kind, spell_part, spell_parts, spell_item, spell_parents, spell_concept, spell_below, spell_minus, spell_value, spell_given, spell_givens, spell_compute, spell_file}
+use Rattle.utopist_parser.specs.ExprSymbols.{spell_name, spell_path}
+use Rattle.utopist_parser.specs.FileSymbols.{spell_kind, spell_part, spell_parts, spell_item, spell_parents, spell_concept, spell_below, spell_minus, spell_value, spell_given, spell_givens, spell_compute, spell_file}
 use Rattle.utopist_parser.specs.FileSeen.{all_if_any, see_part, see_item, see_concept, see_file}
 use Rattle.concept_unfold.specs.Built.{IsInput, IsBuiltItem, IsBuiltConcept, IsBuilt}
 use Rattle.file_accept.specs.declared.unbuilt.Context.{Context}
-use Rattle.file_accept.specs.Unbuilt.{at_start, behind_all, NoneOpens}
+use Rattle.file_accept.specs.Unbuilt.{not_solved, at_start, behind_all, NoneOpens}
 use Rattle.file_accept.proofs.Watched.{kinds_in, Watched, recast, nothing, a_word, a_mark, a_number, a_name, true_false, an_opener, both, after, before, many, parted, many_free, parted_free, path_watched}
 use Rattle.file_accept.proofs.BodyForms.{body_watched}
 
@@ -27,11 +27,11 @@ in_names = record { in_var = true; behind_colon = false }
 
 -- none of the names begins such a form, and they leave the place as it is
 module _ (cs : List Symbol) where
-  into_more : (ns : List Named) → NoneOpens in_names (kinds_in cs) → NoneOpens in_names (kinds_in (flat_map (next_of marks.Comma spell_name) ns ++ cs))
+  into_more : (ns : List Named) → NoneOpens not_solved in_names (kinds_in cs) → NoneOpens not_solved in_names (kinds_in (flat_map (next_of marks.Comma spell_name) ns ++ cs))
   into_more [] h = h
   into_more (n ∷ ns) h = (refl, (refl, into_more ns h))
 
-  out_of_more : (ns : List Named) → NoneOpens in_names (kinds_in (flat_map (next_of marks.Comma spell_name) ns ++ cs)) → NoneOpens in_names (kinds_in cs)
+  out_of_more : (ns : List Named) → NoneOpens not_solved in_names (kinds_in (flat_map (next_of marks.Comma spell_name) ns ++ cs)) → NoneOpens not_solved in_names (kinds_in cs)
   out_of_more [] h = h
   out_of_more (n ∷ ns) h = out_of_more ns h.1.1
 
@@ -122,9 +122,9 @@ file_watched : (w : WrittenFile) → Watched (IsBuilt (see_file w)) (spell_file 
 file_watched w = before (many spell_concept see_concept IsBuiltConcept concept_watched w.concepts) (after (many_free spell_compute compute_watched w.computes) end_watched)
 
 -- where a file is built, none of its tokens begins another form
-pub built_passes : (w : WrittenFile) → IsBuilt (see_file w) → NoneOpens at_start (kinds_in (spell_file w))
+pub built_passes : (w : WrittenFile) → IsBuilt (see_file w) → NoneOpens not_solved at_start (kinds_in (spell_file w))
 built_passes w built = (file_watched w).on built at_start refl
 
 -- and where none does, it is built
-pub passing_is_built : (w : WrittenFile) → NoneOpens at_start (kinds_in (spell_file w)) → IsBuilt (see_file w)
+pub passing_is_built : (w : WrittenFile) → NoneOpens not_solved at_start (kinds_in (spell_file w)) → IsBuilt (see_file w)
 passing_is_built w h = ((file_watched w).back at_start refl h).0

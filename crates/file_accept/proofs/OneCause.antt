@@ -20,7 +20,7 @@ use Rattle.file_accept.specs.declared.fault.FileFault.TheVariants as fault
 use Rattle.file_accept.specs.steps.Faults.{parse_fault}
 use Rattle.file_accept.specs.Accepted.{Accepts}
 use Rattle.file_accept.specs.Refused.{IsUnbuilt, Refuses}
-use Rattle.file_accept.specs.Unbuilt.{opens, context_behind, at_start, behind_all, NoneOpens, kinds_of, FirstUnbuilt}
+use Rattle.file_accept.specs.Unbuilt.{not_solved, opens, context_behind, at_start, behind_all, NoneOpens, kinds_of, FirstLeftOut}
 use Rattle.file_accept.proofs.Steps.{found_is_unbuilt}
 
 -- ---- the first token of a form that is not built
@@ -29,21 +29,21 @@ open_not_closed : (b : Bool) → b ≡ true → b ≡ false → ⊥
 open_not_closed b e i = cc
 
 -- a token that begins such a form behind tokens that don't is the same in each split of a list
-same_opener : (c : Context) (xs ys : List Tok) (x y : Tok) (after later : List Tok) → NoneOpens c (kinds_of xs) → NoneOpens c (kinds_of ys)
-    → opens (behind_all c (kinds_of xs)) x.kind ≡ true → opens (behind_all c (kinds_of ys)) y.kind ≡ true → xs ++ x ∷ after ≡ ys ++ y ∷ later → x ≡ y
+same_opener : (c : Context) (xs ys : List Tok) (x y : Tok) (after later : List Tok) → NoneOpens not_solved c (kinds_of xs) → NoneOpens not_solved c (kinds_of ys)
+    → opens not_solved (behind_all c (kinds_of xs)) x.kind ≡ true → opens not_solved (behind_all c (kinds_of ys)) y.kind ≡ true → xs ++ x ∷ after ≡ ys ++ y ∷ later → x ≡ y
 same_opener c [] [] x y after later none closed opening opened e = cc
 same_opener c [] (t ∷ ys) x y after later none closed opening opened e =
-    let same : t ≡ x = cc in absurd (open_not_closed (opens c x.kind) opening (subst (λ (u : Tok). opens c u.kind ≡ false) same closed.0))
+    let same : t ≡ x = cc in absurd (open_not_closed (opens not_solved c x.kind) opening (subst (λ (u : Tok). opens not_solved c u.kind ≡ false) same closed.0))
 same_opener c (t ∷ xs) [] x y after later none closed opening opened e =
-    let same : t ≡ y = cc in absurd (open_not_closed (opens c y.kind) opened (subst (λ (u : Tok). opens c u.kind ≡ false) same none.0))
+    let same : t ≡ y = cc in absurd (open_not_closed (opens not_solved c y.kind) opened (subst (λ (u : Tok). opens not_solved c u.kind ≡ false) same none.0))
 same_opener c (t ∷ xs) (u ∷ ys) x y after later none closed opening opened e =
     let same : u ≡ t = cc in
     let context = ap (λ (v : Tok). context_behind c v.kind) same in
-    same_opener (context_behind c t.kind) xs ys x y after later none.1 (subst (λ d. NoneOpens d (kinds_of ys)) context closed.1) opening (subst (λ d. opens (behind_all d (kinds_of ys)) y.kind ≡ true) context opened) cc
+    same_opener (context_behind c t.kind) xs ys x y after later none.1 (subst (λ d. NoneOpens not_solved d (kinds_of ys)) context closed.1) opening (subst (λ d. opens not_solved (behind_all d (kinds_of ys)) y.kind ≡ true) context opened) cc
 
-one_unbuilt : (ts : List Tok) (p q : Place) → FirstUnbuilt ts p → FirstUnbuilt ts q → p ≡ q
+one_unbuilt : (ts : List Tok) (p q : Place) → FirstLeftOut not_solved ts p → FirstLeftOut not_solved ts q → p ≡ q
 one_unbuilt ts p q u v =
-    sym u.here ∙ ap (λ (t : Tok). t.place) (same_opener at_start u.before v.before u.next v.next u.after v.after u.none v.none u.unbuilt v.unbuilt (sym u.split ∙ v.split)) ∙ v.here
+    sym u.here ∙ ap (λ (t : Tok). t.place) (same_opener at_start u.before v.before u.next v.next u.after v.after u.none v.none u.opening v.opening (sym u.split ∙ v.split)) ∙ v.here
 
 -- ---- causes
 
@@ -69,7 +69,7 @@ one_model text f g m l s t h k =
 -- a file with a form that is not built is none whose forms are built
 unbuilt_not_built : (text : List ℕ) (p : Place) (f : FileTree) → IsUnbuilt text p → ReadsAs text f → IsBuilt f → ⊥
 unbuilt_not_built text p f u s built =
-    found_is_unbuilt text f s p (subst (λ (ts : List Tok). FirstUnbuilt ts p) (one_list (chars text) u.tokens s.tokens u.read s.read) u.first) built
+    found_is_unbuilt text f s p (subst (λ (ts : List Tok). FirstLeftOut not_solved ts p) (one_list (chars text) u.tokens s.tokens u.read s.read) u.first) built
 
 -- two causes are of one fault
 same_cause : (text : List ℕ) (e d : FileFault) → Cause text e → Cause text d → e ≡ d
@@ -78,7 +78,7 @@ same_cause text e d (inl a) (inr (inl b)) = absurd (not_tree_and_fault text b.2.
 same_cause text e d (inl a) (inr (inr b)) = absurd (not_tree_and_fault text b.2.0 a.0 b.2.1 a.2)
 same_cause text e d (inr (inl a)) (inl b) = absurd (not_tree_and_fault text a.2.file b.0 a.2.tree b.2)
 same_cause text e d (inr (inl a)) (inr (inl b)) =
-    sym a.1 ∙ ap (λ (p : Place). fault.Expected p) (one_unbuilt b.2.tokens a.0 b.0 (subst (λ (ts : List Tok). FirstUnbuilt ts a.0) (one_list (chars text) a.2.tokens b.2.tokens a.2.read b.2.read) a.2.first) b.2.first) ∙ b.1
+    sym a.1 ∙ ap (λ (p : Place). fault.Expected p) (one_unbuilt b.2.tokens a.0 b.0 (subst (λ (ts : List Tok). FirstLeftOut not_solved ts a.0) (one_list (chars text) a.2.tokens b.2.tokens a.2.read b.2.read) a.2.first) b.2.first) ∙ b.1
 same_cause text e d (inr (inl a)) (inr (inr b)) = absurd (unbuilt_not_built text a.0 b.2.0 a.2 b.2.1 b.2.2)
 same_cause text e d (inr (inr a)) (inl b) = absurd (not_tree_and_fault text a.2.0 b.0 a.2.1 b.2)
 same_cause text e d (inr (inr a)) (inr (inl b)) = absurd (unbuilt_not_built text b.0 a.2.0 b.2 a.2.1 a.2.2)

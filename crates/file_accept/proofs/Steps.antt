@@ -9,8 +9,8 @@ use Rattle.priz_base.specs.declared.place.Place.{Place}
 use Rattle.utopist_lexer.specs.Lexical.{Tok}
 use Rattle.utopist_syntax.specs.declared.file.File.{File}
 use Rattle.utopist_syntax.specs.FileTree.{FileTree, file_tree}
-use Rattle.utopist_parser.specs.Symbols.{symbol_of, symbol_at, end}
-use Rattle.utopist_parser.specs.steps.Single.{kind_of}
+use Rattle.token_forms.specs.Symbols.{symbol_of, symbol_at, end}
+use Rattle.token_forms.specs.steps.Single.{kind_of}
 use Rattle.utopist_parser.specs.declared.parser.ParseFault.{ParseFault}
 use Rattle.utopist_parser.specs.declared.parser.ParseFault.TheVariants as parsing
 use Rattle.utopist_parser.specs.Forms.{ReadsAs, ParseOf}
@@ -22,7 +22,7 @@ use Rattle.concept_unfold.specs.Rows.{Checks}
 use Rattle.concept_unfold.specs.UnfoldingRules.{rules_of}
 use Rattle.file_accept.specs.declared.fault.FileFault.{FileFault}
 use Rattle.file_accept.specs.declared.fault.FileFault.TheVariants as fault
-use Rattle.file_accept.specs.Unbuilt.{opens, at_start, behind_all, NoneOpens, kinds_of, FirstUnbuilt, UnbuiltOf}
+use Rattle.file_accept.specs.Unbuilt.{not_solved, opens, at_start, behind_all, NoneOpens, kinds_of, FirstLeftOut, LeftOutOf}
 use Rattle.file_accept.specs.Problems.{problems_of, ProblemsOf}
 use Rattle.file_accept.specs.steps.Faults.{parse_fault, unfold_fault}
 use Rattle.file_accept.specs.steps.FormOf.{FormOf}
@@ -59,27 +59,27 @@ written_kinds text f r =
     sym (ap kinds_in r.grammar) ∙ map-append kind_of (map symbol_of r.tokens) (end ∷ []) ∙ ap (λ (ks : List Kind). ks ++ kinds.End ∷ []) (kinds_are r.tokens)
 
 -- where none of the tokens begins such a form the file is built
-none_is_built : (text : List ℕ) (f : FileTree) (r : ReadsAs text f) → NoneOpens at_start (kinds_of r.tokens) → IsBuilt f
+none_is_built : (text : List ℕ) (f : FileTree) (r : ReadsAs text f) → NoneOpens not_solved at_start (kinds_of r.tokens) → IsBuilt f
 none_is_built text f r none =
-    subst IsBuilt r.tree (passing_is_built r.written (subst (NoneOpens at_start) (sym (written_kinds text f r)) (none-append at_start (kinds_of r.tokens) (kinds.End ∷ []) none (refl, tt))))
+    subst IsBuilt r.tree (passing_is_built r.written (subst (NoneOpens not_solved at_start) (sym (written_kinds text f r)) (none-append not_solved at_start (kinds_of r.tokens) (kinds.End ∷ []) none (refl, tt))))
 
 -- where one does it is not
-pub found_is_unbuilt : (text : List ℕ) (f : FileTree) (r : ReadsAs text f) (p : Place) → FirstUnbuilt r.tokens p → ¬ IsBuilt f
+pub found_is_unbuilt : (text : List ℕ) (f : FileTree) (r : ReadsAs text f) (p : Place) → FirstLeftOut not_solved r.tokens p → ¬ IsBuilt f
 found_is_unbuilt text f r p u built =
-    let none : NoneOpens at_start (kinds_of r.tokens ++ kinds.End ∷ []) = subst (NoneOpens at_start) (written_kinds text f r) (built_passes r.written (subst IsBuilt (sym r.tree) built)) in
+    let none : NoneOpens not_solved at_start (kinds_of r.tokens ++ kinds.End ∷ []) = subst (NoneOpens not_solved at_start) (written_kinds text f r) (built_passes r.written (subst IsBuilt (sym r.tree) built)) in
     let split : kinds_of r.tokens ++ kinds.End ∷ [] ≡ kinds_of u.before ++ (u.next.kind ∷ (kinds_of u.after ++ kinds.End ∷ [])) =
     ap (λ (l : List Tok). kinds_of l ++ kinds.End ∷ []) u.split ∙ ap (λ (ks : List Kind). ks ++ kinds.End ∷ []) (map-append (λ (t : Tok). t.kind) u.before (u.next ∷ u.after)) ∙ append_assoc (kinds_of u.before) (u.next.kind ∷ kinds_of u.after) (kinds.End ∷ []) in
-    let here = append-none at_start (kinds_of u.before) (u.next.kind ∷ (kinds_of u.after ++ kinds.End ∷ [])) (subst (NoneOpens at_start) split none) in
-    closed_or_open (opens (behind_all at_start (kinds_of u.before)) u.next.kind) u.unbuilt here.0 where
+    let here = append-none not_solved at_start (kinds_of u.before) (u.next.kind ∷ (kinds_of u.after ++ kinds.End ∷ [])) (subst (NoneOpens not_solved at_start) split none) in
+    closed_or_open (opens not_solved (behind_all at_start (kinds_of u.before)) u.next.kind) u.opening here.0 where
       closed_or_open : (b : Bool) → b ≡ true → b ≡ false → ⊥
       closed_or_open b e i = cc
 
 -- a file that has a form that is not built is refused at its first token
-pub unbuilt_form : (text : List ℕ) (f : File) (p : Place) → ParseOf text (Ok f) → UnbuiltOf (chars text) (Some p) → FormOf text (Err (fault.Expected p))
+pub unbuilt_form : (text : List ℕ) (f : File) (p : Place) → ParseOf text (Ok f) → LeftOutOf not_solved (chars text) (Some p) → FormOf text (Err (fault.Expected p))
 unbuilt_form text f p h found = inr (record { file = file_tree f; tree = h.0; tokens = h.0.tokens; read = h.0.read; first = found h.0.tokens h.0.read })
 
 -- where no form is left out the file is built
-pub built_form : (text : List ℕ) (f : File) → ParseOf text (Ok f) → UnbuiltOf (chars text) None → FormOf text (Ok f)
+pub built_form : (text : List ℕ) (f : File) → ParseOf text (Ok f) → LeftOutOf not_solved (chars text) None → FormOf text (Ok f)
 built_form text f h found = (h.0, none_is_built text (file_tree f) h.0 (found h.0.tokens h.0.read))
 
 -- ---- the whole

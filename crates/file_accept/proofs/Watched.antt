@@ -10,13 +10,13 @@ use Rattle.utopist_lexer.specs.declared.mark.Mark.TheVariants as marks
 use Rattle.utopist_lexer.specs.declared.token.Kind.{Kind}
 use Rattle.utopist_lexer.specs.declared.token.Kind.TheVariants as kinds
 use Rattle.utopist_syntax.specs.Named.{Named}
-use Rattle.utopist_parser.specs.Symbols.{Symbol, name, number, word, mark}
-use Rattle.utopist_parser.specs.steps.Single.{kind_of}
-use Rattle.utopist_parser.specs.Written.{OneOrMore, WrittenPath}
-use Rattle.utopist_parser.specs.ExprSymbols.{behind as next_of, separated, spell_name, spell_path}
-use Rattle.utopist_parser.specs.ExprTree.{all_of}
+use Rattle.token_forms.specs.Symbols.{Symbol, name, number, word, mark}
+use Rattle.token_forms.specs.steps.Single.{kind_of}
+use Rattle.token_forms.specs.Lists.{OneOrMore, behind as next_of, separated, all_of}
+use Rattle.utopist_parser.specs.Written.{WrittenPath}
+use Rattle.utopist_parser.specs.ExprSymbols.{spell_name, spell_path}
 use Rattle.file_accept.specs.declared.unbuilt.Context.{Context}
-use Rattle.file_accept.specs.Unbuilt.{word_opens, mark_opens, opens, is_var, context_behind, behind_all, NoneOpens}
+use Rattle.file_accept.specs.Unbuilt.{not_solved, word_opens, mark_opens, opens, is_var, context_behind, behind_all, NoneOpens}
 use Rattle.file_accept.proofs.UnbuiltTokens.{none-append, append-none, none-front, behind-append}
 
 -- the kinds of symbols
@@ -29,8 +29,8 @@ Calm c = c.in_var ≡ false
 
 -- from any calm place none of these begins a form that is not built exactly where this holds, and then it is calm behind them
 pub record Watched (Built : Type 0) (cs : List Symbol) : Type 0 where
-  pub on : Built → (c : Context) → Calm c → NoneOpens c (kinds_in cs)
-  pub back : (c : Context) → Calm c → NoneOpens c (kinds_in cs) → Built × Calm (behind_all c (kinds_in cs))
+  pub on : Built → (c : Context) → Calm c → NoneOpens not_solved c (kinds_in cs)
+  pub back : (c : Context) → Calm c → NoneOpens not_solved c (kinds_in cs) → Built × Calm (behind_all c (kinds_in cs))
 
 -- the same symbols, where as much is said in another way
 pub recast : {A B : Type 0} {cs : List Symbol} → (A → B) → (B → A) → Watched A cs → Watched B cs
@@ -46,14 +46,14 @@ pub nothing : Watched (Unit {0}) []
 nothing = record { on = λ u c calm. tt; back = λ c calm h. (tt, calm) }
 
 -- a keyword before others
-pub a_word : {A : Type 0} {cs : List Symbol} (k : Word) → word_opens k ≡ false → is_var k ≡ false → Watched A cs → Watched A (word k ∷ cs)
+pub a_word : {A : Type 0} {cs : List Symbol} (k : Word) → word_opens not_solved k ≡ false → is_var k ≡ false → Watched A cs → Watched A (word k ∷ cs)
 a_word k closed no_var w = record {
   on = λ a c calm. (closed, w.on a (context_behind c (kinds.Word k)) no_var);
   back = λ c calm h. w.back (context_behind c (kinds.Word k)) no_var h.1;
 }
 
 -- a mark before others
-pub a_mark : {A : Type 0} {cs : List Symbol} (m : Mark) → mark_opens m ≡ false → Watched A cs → Watched A (mark m ∷ cs)
+pub a_mark : {A : Type 0} {cs : List Symbol} (m : Mark) → mark_opens not_solved m ≡ false → Watched A cs → Watched A (mark m ∷ cs)
 a_mark m closed w = record {
   on = λ a c calm. (closed, w.on a (context_behind c (kinds.Mark m)) calm);
   back = λ c calm h. w.back (context_behind c (kinds.Mark m)) calm h.1;
@@ -77,7 +77,7 @@ pub true_false : true ≡ false → ⊥
 true_false e = cc
 
 -- a symbol that begins a form that is not built, before others
-pub an_opener : {A : Type 0} {cs : List Symbol} (s : Symbol) → ((c : Context) → opens c (kind_of s) ≡ true) → (A → ⊥) → Watched A (s ∷ cs)
+pub an_opener : {A : Type 0} {cs : List Symbol} (s : Symbol) → ((c : Context) → opens not_solved c (kind_of s) ≡ true) → (A → ⊥) → Watched A (s ∷ cs)
 an_opener s opening none = record {
   on = λ a. absurd (none a);
   back = λ c calm h. absurd (true_false (sym (opening c) ∙ h.0));
@@ -91,16 +91,16 @@ both {A} {B} {xs} {ys} w v = record { on = on; back = back } where
   joined : kinds_in (xs ++ ys) ≡ kinds_in xs ++ kinds_in ys
   joined = map-append kind_of xs ys
 
-  on : A × B → (c : Context) → Calm c → NoneOpens c (kinds_in (xs ++ ys))
+  on : A × B → (c : Context) → Calm c → NoneOpens not_solved c (kinds_in (xs ++ ys))
   on p c calm =
       let first = w.on p.0 c calm in
-      subst (NoneOpens c) (sym joined) (none-append c (kinds_in xs) (kinds_in ys) first (v.on p.1 (behind_all c (kinds_in xs)) (w.back c calm first).1))
+      subst (NoneOpens not_solved c) (sym joined) (none-append not_solved c (kinds_in xs) (kinds_in ys) first (v.on p.1 (behind_all c (kinds_in xs)) (w.back c calm first).1))
 
-  back : (c : Context) → Calm c → NoneOpens c (kinds_in (xs ++ ys)) → (A × B) × Calm (behind_all c (kinds_in (xs ++ ys)))
+  back : (c : Context) → Calm c → NoneOpens not_solved c (kinds_in (xs ++ ys)) → (A × B) × Calm (behind_all c (kinds_in (xs ++ ys)))
   back c calm h =
-      let apart = subst (NoneOpens c) joined h in
-      let first = w.back c calm (none-front c (kinds_in xs) (kinds_in ys) apart) in
-      let second = v.back (behind_all c (kinds_in xs)) first.1 (append-none c (kinds_in xs) (kinds_in ys) apart) in
+      let apart = subst (NoneOpens not_solved c) joined h in
+      let first = w.back c calm (none-front not_solved c (kinds_in xs) (kinds_in ys) apart) in
+      let second = v.back (behind_all c (kinds_in xs)) first.1 (append-none not_solved c (kinds_in xs) (kinds_in ys) apart) in
       ((first.0, second.0), subst Calm (sym (ap (behind_all c) joined ∙ behind-append c (kinds_in xs) (kinds_in ys))) second.1)
 
 -- what is always built before others
@@ -121,7 +121,7 @@ many spell see Built w (x ∷ xs) =
     (both (w x) (many spell see Built w xs))
 
 -- part {SEPARATOR part}
-pub parted : {X V : Type 0} (m : Mark) → mark_opens m ≡ false → (spell : X → List Symbol) (see : X → V) (Built : V → Type 0) → ((x : X) → Watched (Built (see x)) (spell x))
+pub parted : {X V : Type 0} (m : Mark) → mark_opens not_solved m ≡ false → (spell : X → List Symbol) (see : X → V) (Built : V → Type 0) → ((x : X) → Watched (Built (see x)) (spell x))
     → (xs : OneOrMore X) → Watched (All Built (map see (all_of xs))) (separated m spell xs)
 parted m closed spell see Built w xs =
     recast {A = Built (see xs.first) × All Built (map see xs.more)} (λ p. All-cons Built (see xs.first) (map see xs.more) p.0 p.1) (λ a. (All-head Built (see xs.first) (map see xs.more) a, All-tail Built (see xs.first) (map see xs.more) a))
@@ -133,7 +133,7 @@ many_free spell w [] = nothing
 many_free spell w (x ∷ xs) = after (w x) (many_free spell w xs)
 
 -- part {SEPARATOR part}
-pub parted_free : {X : Type 0} (m : Mark) → mark_opens m ≡ false → (spell : X → List Symbol) → ((x : X) → Watched (Unit {0}) (spell x)) → (xs : OneOrMore X) → Watched (Unit {0}) (separated m spell xs)
+pub parted_free : {X : Type 0} (m : Mark) → mark_opens not_solved m ≡ false → (spell : X → List Symbol) → ((x : X) → Watched (Unit {0}) (spell x)) → (xs : OneOrMore X) → Watched (Unit {0}) (separated m spell xs)
 parted_free m closed spell w xs = after (w xs.first) (many_free (next_of m spell) (λ x. a_mark m closed (w x)) xs.more)
 
 -- a path

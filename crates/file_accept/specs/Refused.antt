@@ -12,7 +12,7 @@ use Rattle.concept_unfold.specs.Rows.{FirstFailing}
 use Rattle.concept_unfold.specs.UnfoldingRules.{rules_of}
 use Rattle.file_accept.specs.declared.fault.FileFault.{FileFault}
 use Rattle.file_accept.specs.declared.fault.FileFault.TheVariants as fault
-use Rattle.file_accept.specs.Unbuilt.{FirstUnbuilt}
+use Rattle.file_accept.specs.Unbuilt.{not_solved, FirstLeftOut}
 
 -- the text reads as a file, of whose tokens the first that begins a form that is not built stands here
 pub record IsUnbuilt (text : List ℕ) (place : Place) : Type 0 where
@@ -20,7 +20,7 @@ pub record IsUnbuilt (text : List ℕ) (place : Place) : Type 0 where
   pub tree : ReadsAs text file
   pub tokens : List Tok
   pub read : Reads (chars text) tokens
-  pub first : FirstUnbuilt tokens place
+  pub first : FirstLeftOut not_solved tokens place
 
 -- this is wrong with the text
 abbrev pub Refuses : List ℕ → FileFault → Type 0

@@ -5,7 +5,7 @@ ghost use Rattle.utopist_syntax.specs.FileTree.{file_tree};
 ghost use Rattle.file_accept.specs.steps.FormOf.{FormOf};
 
 use crate::fault::FileFault;
-use crate::unbuilt::first_unbuilt;
+use crate::unbuilt::{LeftOut, first_left_out};
 use concept_unfold::is_built;
 use std::alloc::Global;
 use utopist_parser::parse;
@@ -21,7 +21,7 @@ pub(crate) fn file_of<'a>(alloc: Global, text: &'a str) -> Result<File<'a>, File
     if is_built(&file) {
         return Ok(file);
     }
-    match first_unbuilt(text) {
+    match first_left_out(text, LeftOut::not_solved()) {
         Some(place) => Err(FileFault::Expected(place)),
         None => unreachable!(),
     }

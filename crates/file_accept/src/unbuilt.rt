@@ -1,11 +1,56 @@
-//! The forms that are read, and not built yet.
+//! The forms that are read, and that a mode leaves out.
 ghost use Rattle.std.specs.Prelude.{◌≡◌, ◌≤◌, length};
 ghost use Rattle.std.specs.Str.{chars};
 ghost use Rattle.priz_base.specs.Reading.{max_input};
-ghost use Rattle.file_accept.specs.Unbuilt.{opens, context_behind, found_with, UnbuiltOf};
+ghost use Rattle.file_accept.specs.Unbuilt.{word_opens, mark_opens, opens, context_behind, LeftOutOf, not_solved};
 
 use priz_base::Place;
 use utopist_lexer::{Kind, Lexer, Mark, Word};
+
+/// The forms that a mode leaves out.
+#[derive(Clone, Copy)]
+pub(crate) struct LeftOut {
+    /// The parents of a concept.
+    pub(crate) parents: bool,
+    /// Variables of a concept, and their bindings.
+    pub(crate) components: bool,
+    pub(crate) equations: bool,
+    /// Subtasks among the parts of a relation.
+    pub(crate) subtasks: bool,
+    /// Calls of subtasks in a body.
+    pub(crate) calls: bool,
+}
+
+impl LeftOut {
+    /// What `solve` leaves out.
+    pub(crate) fn not_solved() -> LeftOut
+        ensures { result ≡ not_solved }
+    {
+        LeftOut {
+            parents: true,
+            components: true,
+            equations: true,
+            subtasks: true,
+            calls: true,
+        }
+    }
+
+    fn has_word(self, word: Word) -> bool
+        ensures { result ≡ word_opens self word }
+    {
+        match word {
+            Word::Is => self.parents,
+            Word::Eq => self.equations,
+            _ => false,
+        }
+    }
+
+    fn has_mark(self, mark: Mark) -> bool
+        ensures { result ≡ mark_opens self mark }
+    {
+        matches!(mark, Mark::OpenSquare) && self.subtasks
+    }
+}
 
 /// What stands before a token.
 #[derive(Clone, Copy, PartialEq, Eq, Debug)]
@@ -17,16 +62,16 @@ pub(crate) struct Context {
 }
 
 impl Context {
-    /// Whether this token begins a form that is not built.
-    fn opens(self, kind: Kind) -> bool
-        ensures { result ≡ opens self kind }
+    /// Whether this token begins a form that is left out.
+    fn opens(self, left_out: LeftOut, kind: Kind) -> bool
+        ensures { result ≡ opens left_out self kind }
     {
         match kind {
-            Kind::Name => self.in_var && self.behind_colon,
-            Kind::Word(word) => matches!(word, Word::Is | Word::Eq),
-            Kind::Mark(mark) => matches!(mark, Mark::OpenSquare),
+            Kind::Name => left_out.components && self.in_var && self.behind_colon,
+            Kind::Word(word) => left_out.has_word(word),
+            Kind::Mark(mark) => left_out.has_mark(mark),
             // A call of a subtask.
-            Kind::Sub { .. } => true,
+            Kind::Sub { .. } => left_out.calls,
             Kind::Number(_) | Kind::End => false,
         }
     }
@@ -52,36 +97,26 @@ impl Context {
     }
 }
 
-/// The place of the first token that begins a form that is not built. No memory is taken.
-pub(crate) fn first_unbuilt(text: &str) -> Option<Place>
+/// The place of the first token that begins a form that is left out. No memory is taken, and no token behind it is cut.
+pub(crate) fn first_left_out(text: &str, left_out: LeftOut) -> Option<Place>
     requires { length text.now ≤ max_input }
-    ensures { UnbuiltOf (chars text.entry.now) result }
+    ensures { LeftOutOf left_out (chars text.entry.now) result }
 {
     let mut lexer = Lexer::new(text);
     let mut context = Context {
         in_var: false,
         behind_colon: false,
     };
-    let mut found = None;
     'tokens: loop {
         let Ok(token) = lexer.next() else {
             return None;
         };
         if token.kind.is(Kind::End) {
-            return found;
+            return None;
         }
-        found = found_with(found, context.opens(token.kind), token.place());
+        if context.opens(left_out, token.kind) {
+            return Some(token.place());
+        }
         context = context.behind(token.kind);
-    }
-}
-
-// The first place that was found, with one more.
-fn found_with(found: Option<Place>, unbuilt: bool, place: Place) -> Option<Place>
-    ensures { result ≡ found_with found unbuilt place }
-{
-    match found {
-        Some(first) => Some(first),
-        None if unbuilt => Some(place),
-        None => None,
     }
 }

@@ -5,15 +5,15 @@ use Rattle.utopist_syntax.specs.declared.expr.Expr.{Expr}
 use Rattle.utopist_syntax.specs.ExprTree.{ExprTrees, none, more}
 use Rattle.utopist_syntax.specs.View.{tree_of, trees_of}
 use Rattle.utopist_parser.specs.declared.breadth.Breadth.{Breadth}
-use Rattle.utopist_parser.specs.declared.parse_stop.ParseStop.{ParseStop}
-use Rattle.utopist_parser.specs.Symbols.{Symbol}
-use Rattle.utopist_parser.specs.steps.Steps.{Reading, on_ok, next, meets}
-use Rattle.utopist_parser.specs.steps.Single.{is_mark}
-use Rattle.utopist_parser.specs.steps.Lists.{next_at, separated_at}
+use Rattle.token_forms.specs.declared.parse_stop.ParseStop.{ParseStop}
+use Rattle.token_forms.specs.Symbols.{Symbol}
+use Rattle.token_forms.specs.steps.Steps.{Reading, on_ok, next, meets}
+use Rattle.token_forms.specs.steps.Single.{is_mark}
+use Rattle.token_forms.specs.steps.Lists.{next_at, separated_at}
 use Rattle.utopist_parser.specs.steps.ReadingExpr.{Nested, settled, most, trees_in, expr_at}
-use Rattle.utopist_parser.specs.steps.Answers.{Fails}
-use Rattle.utopist_parser.proofs.Loops.{fails_on, goes_on, ends, fails}
-use Rattle.utopist_parser.proofs.Starts.{Separated, separated_starts, separated_fails}
+use Rattle.token_forms.specs.steps.Answers.{Fails}
+use Rattle.token_forms.proofs.Loops.{fails_on, goes_on, ends, fails}
+use Rattle.token_forms.proofs.Starts.{Separated, separated_starts, separated_fails}
 
 -- the most of the nestings with one more
 most_more : (front : List Nested) (v : Nested) → most (front ++ v ∷ []) ≡ max (most front) v.1

@@ -10,22 +10,23 @@ use Rattle.utopist_lexer.specs.declared.token.Kind.TheVariants as kinds
 use Rattle.utopist_syntax.specs.Named.{Named}
 use Rattle.utopist_syntax.specs.declared.compute.Compute.{Compute}
 use Rattle.utopist_syntax.specs.declared.compute.GivenPath.{GivenPath}
-use Rattle.utopist_parser.specs.Symbols.{Symbol, number, word}
-use Rattle.utopist_parser.specs.steps.Steps.{meets}
-use Rattle.utopist_parser.specs.steps.Single.{is_word, is_mark}
-use Rattle.utopist_parser.specs.Written.{OneOrMore, WrittenPath}
+use Rattle.token_forms.specs.Symbols.{Symbol, number, word}
+use Rattle.token_forms.specs.steps.Steps.{meets}
+use Rattle.token_forms.specs.steps.Single.{is_word, is_mark}
+use Rattle.token_forms.specs.Lists.{OneOrMore}
+use Rattle.utopist_parser.specs.Written.{WrittenPath}
 use Rattle.utopist_parser.specs.WrittenFile.{WrittenNumber, WrittenGiven, WrittenCompute}
-use Rattle.utopist_parser.specs.ExprTree.{all_of}
+use Rattle.token_forms.specs.Lists.{all_of}
 use Rattle.utopist_parser.specs.FileSymbols.{spell_minus, spell_value, spell_given, spell_givens, spell_compute}
 use Rattle.utopist_parser.specs.FileSeen.{see_path, see_value, see_given, see_compute}
 use Rattle.utopist_parser.specs.steps.ReadingFile.{minus_at, negative_at, some_below_at, below_at, some_value_at, given_value_at, given_at, some_givens_at, givens_at, compute_at}
-use Rattle.utopist_parser.proofs.StepLaws.{Form, Aspect}
-use Rattle.utopist_parser.proofs.Sequence.{both}
-use Rattle.utopist_parser.proofs.Recast.{recast}
-use Rattle.utopist_parser.proofs.Singles.{after, name_form, number_form, divisor_form}
-use Rattle.utopist_parser.proofs.Rules.{Rule, name_rule, number_rule, divisor_rule, after_word, after_mark, stop, stop_rule, then_rule, map_rule, recast_rule, separated_form, separated_stops, separated_rule, see_optional, optional, optional_rule, with_option, with_option_rule}
+use Rattle.token_forms.proofs.StepLaws.{Form, Aspect}
+use Rattle.token_forms.proofs.Sequence.{both}
+use Rattle.token_forms.proofs.Recast.{recast}
+use Rattle.token_forms.proofs.Singles.{after, name_form, number_form, divisor_form}
+use Rattle.token_forms.proofs.Rules.{Rule, name_rule, number_rule, divisor_rule, after_word, after_mark, stop, stop_rule, then_rule, map_rule, recast_rule, separated_form, separated_stops, separated_rule, see_optional, optional, optional_rule, with_option, with_option_rule}
 use Rattle.utopist_parser.proofs.PathRules.{path_form, path_rule, path_stops, paths_form, paths_rule, paths_stop}
-use Rattle.utopist_parser.proofs.Meeting.{meets_other}
+use Rattle.token_forms.proofs.Meeting.{meets_other}
 use Rattle.utopist_parser.proofs.Free.{Free, free_after, free_stop, free_both, free_separated, free_optional, free_recast}
 use Rattle.utopist_parser.proofs.ItemRules.{free_name, free_path, free_paths}
 

@@ -7,21 +7,21 @@ use Rattle.utopist_lexer.specs.declared.mark.Mark.TheVariants as marks
 use Rattle.utopist_lexer.specs.declared.token.Kind.TheVariants as kinds
 use Rattle.utopist_syntax.specs.Named.{Named}
 use Rattle.utopist_syntax.specs.FileTree.{ConceptTree}
-use Rattle.utopist_parser.specs.Symbols.{mark}
-use Rattle.utopist_parser.specs.steps.Single.{is_word}
-use Rattle.utopist_parser.specs.Written.{OneOrMore}
+use Rattle.token_forms.specs.Symbols.{mark}
+use Rattle.token_forms.specs.steps.Single.{is_word}
+use Rattle.token_forms.specs.Lists.{OneOrMore}
 use Rattle.utopist_parser.specs.WrittenFile.{WrittenItem, WrittenConcept}
-use Rattle.utopist_parser.specs.ExprTree.{all_of}
+use Rattle.token_forms.specs.Lists.{all_of}
 use Rattle.utopist_parser.specs.FileSymbols.{spell_concept}
 use Rattle.utopist_parser.specs.FileSeen.{see_item, see_concept}
 use Rattle.utopist_parser.specs.FileNesting.{IsItem, IsConcept}
 use Rattle.utopist_parser.specs.steps.ReadingFile.{some_parents_at, parents_at, begins_item, items_at, concept_at}
-use Rattle.utopist_parser.proofs.StepLaws.{Form, Aspect}
-use Rattle.utopist_parser.proofs.Sequence.{both}
-use Rattle.utopist_parser.proofs.Recast.{recast, reform_keeps}
-use Rattle.utopist_parser.proofs.Repeat.{FitsAll, repeated, last_stops}
-use Rattle.utopist_parser.proofs.Singles.{after, name_form}
-use Rattle.utopist_parser.proofs.Rules.{Rule, Any, fitting_by, name_rule, after_word, after_mark, stop, stop_rule, then_rule, repeat_rule, recast_rule, see_optional, optional, optional_rule}
+use Rattle.token_forms.proofs.StepLaws.{Form, Aspect}
+use Rattle.token_forms.proofs.Sequence.{both}
+use Rattle.token_forms.proofs.Recast.{recast, reform_keeps}
+use Rattle.token_forms.proofs.Repeat.{FitsAll, repeated, last_stops}
+use Rattle.token_forms.proofs.Singles.{after, name_form}
+use Rattle.token_forms.proofs.Rules.{Rule, Any, fitting_by, name_rule, after_word, after_mark, stop, stop_rule, then_rule, repeat_rule, recast_rule, see_optional, optional, optional_rule}
 use Rattle.utopist_parser.proofs.PathRules.{names_form, names_rule}
 use Rattle.utopist_parser.proofs.Free.{Free, free_after, free_optional}
 use Rattle.utopist_parser.proofs.ItemRules.{free_names, names_stop, item_form, item_grows, item_rule, item_begins}

@@ -3,9 +3,9 @@ use Rattle.std.proofs.Common.{◌≡◌, ◌≤◌, false, Option, None, arith}
 use Rattle.utopist_lexer.specs.declared.mark.Mark.TheVariants as marks
 use Rattle.utopist_parser.specs.declared.breadth.Breadth.{Breadth}
 use Rattle.utopist_parser.specs.declared.breadth.Breadth.TheVariants as breadth
-use Rattle.utopist_parser.specs.Symbols.{Symbol}
-use Rattle.utopist_parser.specs.steps.Steps.{meets}
-use Rattle.utopist_parser.specs.steps.Single.{is_mark}
+use Rattle.token_forms.specs.Symbols.{Symbol}
+use Rattle.token_forms.specs.steps.Steps.{meets}
+use Rattle.token_forms.specs.steps.Single.{is_mark}
 use Rattle.utopist_parser.specs.Written.{Expression, choice, plain, Chain, one_term, add, Term, one_factor, mul, Factor, negated, literal, variable, round, call, loop}
 use Rattle.utopist_parser.specs.ExprTree.{see_expr, see_chain, see_term, see_factor}
 use Rattle.utopist_parser.specs.Nesting.{nest_expr, nest_chain, nest_term, nest_factor}

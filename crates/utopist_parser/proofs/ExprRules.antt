@@ -8,19 +8,19 @@ use Rattle.utopist_lexer.specs.declared.word.Word.TheVariants as words
 use Rattle.utopist_lexer.specs.declared.token.Kind.TheVariants as kinds
 use Rattle.utopist_parser.specs.declared.breadth.Breadth.{Breadth}
 use Rattle.utopist_parser.specs.declared.breadth.Breadth.TheVariants as breadth
-use Rattle.utopist_parser.specs.Symbols.{Symbol, mark}
-use Rattle.utopist_parser.specs.steps.Steps.{StepOf, next, meets, choose_at, deeper_at}
-use Rattle.utopist_parser.specs.steps.Single.{is_word}
+use Rattle.token_forms.specs.Symbols.{Symbol, mark}
+use Rattle.token_forms.specs.steps.Steps.{StepOf, next, meets, choose_at, deeper_at}
+use Rattle.token_forms.specs.steps.Single.{is_word}
 use Rattle.utopist_parser.specs.Written.{Expression, choice, plain, Chain, one_term, add, Term, one_factor, mul, Factor, negated, literal, variable, round, call, loop}
 use Rattle.utopist_parser.specs.ExprSymbols.{sign_mark, scale_mark, spell_expr, spell_chain, spell_term, spell_factor}
 use Rattle.utopist_parser.specs.steps.ReadingExpr.{Nested, sign_of, scale_of, group_at, choice_step, factor_step, factor_at, term_at, chain_at, expr_at}
-use Rattle.utopist_parser.proofs.StepLaws.{Form, AgainAt, Aspect, again_only, all_laws, Fitting}
-use Rattle.utopist_parser.proofs.Recast.{recast, reform_keeps, same_keeps}
-use Rattle.utopist_parser.proofs.Choice.{either, see_either}
+use Rattle.token_forms.proofs.StepLaws.{Form, AgainAt, Aspect, again_only, all_laws, Fitting}
+use Rattle.token_forms.proofs.Recast.{recast, reform_keeps, same_keeps}
+use Rattle.token_forms.proofs.Choice.{either, see_either}
 use Rattle.utopist_parser.proofs.Levels.{below, IfRoom, below_keeps}
 use Rattle.utopist_parser.proofs.Groups.{Grouping, part_form, operand_form, group_form, Operand, group_keeps}
-use Rattle.utopist_parser.proofs.Singles.{fixed_is}
-use Rattle.utopist_parser.proofs.Rules.{Rule, fitting_by, recast_rule}
+use Rattle.token_forms.proofs.Singles.{fixed_is}
+use Rattle.token_forms.proofs.Rules.{Rule, fitting_by, recast_rule}
 use Rattle.utopist_parser.proofs.ExprFacts.{seen_factor, seen_term, seen_chain, seen_expr, factor_nest, term_nest, chain_nest, expr_nest, AllowedFactor, AllowedTerm, AllowedChain, AllowedExpr, FactorStops, TermStops, ChainStops, ExprStops}
 use Rattle.utopist_parser.proofs.OperatorGroups.{scales, signs}
 use Rattle.utopist_parser.proofs.Lows.{factor_form, term_form, chain_form, expr_form, low_factor_form, low_factor, low_term, low_chain, low_expr, LowRules, RoundsOf, gate, begins_in, gated_rule}

@@ -13,21 +13,24 @@ use Rattle.utopist_syntax.specs.ExprTree as tree
 use Rattle.utopist_syntax.specs.ExprTree.{ExprTrees}
 use Rattle.utopist_parser.specs.declared.breadth.Breadth.{Breadth}
 use Rattle.utopist_parser.specs.declared.breadth.Breadth.TheVariants as breadth
-use Rattle.utopist_parser.specs.Symbols.{Symbol, name, sub, fixed, mark}
-use Rattle.utopist_parser.specs.steps.Steps.{StepOf, next, meets, choose_at}
-use Rattle.utopist_parser.specs.steps.Single.{is_kind, is_word, is_mark, is_sub}
-use Rattle.utopist_parser.specs.Written.{OneOrMore, WrittenPath, Expression, plain, one_term, one_factor, Factor, negated, literal, variable, round, call, loop, Further, no_more, and_then}
-use Rattle.utopist_parser.specs.ExprSymbols.{loop_word, behind, spell_expr, spell_factor, spell_exprs}
-use Rattle.utopist_parser.specs.ExprTree.{all_of, see_expr, see_exprs}
+use Rattle.token_forms.specs.Symbols.{Symbol, name, sub, fixed, mark}
+use Rattle.token_forms.specs.steps.Steps.{StepOf, next, meets, choose_at}
+use Rattle.token_forms.specs.steps.Single.{is_kind, is_word, is_mark, is_sub}
+use Rattle.token_forms.specs.Lists.{OneOrMore}
+use Rattle.utopist_parser.specs.Written.{WrittenPath, Expression, plain, one_term, one_factor, Factor, negated, literal, variable, round, call, loop, Further, no_more, and_then}
+use Rattle.token_forms.specs.Lists.{behind}
+use Rattle.utopist_parser.specs.ExprSymbols.{loop_word, spell_expr, spell_factor, spell_exprs}
+use Rattle.token_forms.specs.Lists.{all_of}
+use Rattle.utopist_parser.specs.ExprTree.{see_expr, see_exprs}
 use Rattle.utopist_parser.specs.Nesting.{nest_expr, nest_exprs}
 use Rattle.utopist_parser.specs.steps.ReadingExpr.{Nested, trees_in, most, literal_step, variable_step, negated_step, round_step, call_step, loop_step, factor_step}
-use Rattle.utopist_parser.proofs.StepLaws.{Form, Aspect}
-use Rattle.utopist_parser.proofs.Recast.{recast, reform_keeps}
-use Rattle.utopist_parser.proofs.Choice.{either, see_either}
-use Rattle.utopist_parser.proofs.Repeat.{FitsAll}
+use Rattle.token_forms.proofs.StepLaws.{Form, Aspect}
+use Rattle.token_forms.proofs.Recast.{recast, reform_keeps}
+use Rattle.token_forms.proofs.Choice.{either, see_either}
+use Rattle.token_forms.proofs.Repeat.{FitsAll}
 use Rattle.utopist_parser.proofs.Levels.{IfRoom}
-use Rattle.utopist_parser.proofs.Singles.{fixed_is, name_form, number_form}
-use Rattle.utopist_parser.proofs.Rules.{Rule, fitting_by, next_form, number_rule, map_rule, either_rule, recast_rule}
+use Rattle.token_forms.proofs.Singles.{fixed_is, name_form, number_form}
+use Rattle.token_forms.proofs.Rules.{Rule, fitting_by, next_form, number_rule, map_rule, either_rule, recast_rule}
 use Rattle.utopist_parser.proofs.PathRules.{path_form, path_rule}
 use Rattle.utopist_parser.proofs.ExprFacts.{seen_factor, seen_expr, factor_nest, expr_nest, InBreadth, FactorStops}
 use Rattle.utopist_parser.proofs.Lows.{factor_form, low_expr_form, low_factor, low_expr, LowRules, RoundsOf, gate, deep_rule, gated_rule}

@@ -5,20 +5,20 @@ use Rattle.std.proofs.lemmas.List.Elements.{All-nil, All-cons, All-head, All-tai
 use Rattle.utopist_lexer.specs.declared.word.Word.TheVariants as words
 use Rattle.utopist_lexer.specs.declared.token.Kind.TheVariants as kinds
 use Rattle.utopist_syntax.specs.FileTree.{FileTree}
-use Rattle.utopist_parser.specs.Symbols.{Symbol}
-use Rattle.utopist_parser.specs.steps.Steps.{next}
-use Rattle.utopist_parser.specs.steps.Single.{is_word}
+use Rattle.token_forms.specs.Symbols.{Symbol}
+use Rattle.token_forms.specs.steps.Steps.{next}
+use Rattle.token_forms.specs.steps.Single.{is_word}
 use Rattle.utopist_parser.specs.WrittenFile.{WrittenConcept, WrittenCompute, WrittenFile}
 use Rattle.utopist_parser.specs.FileSymbols.{spell_file}
 use Rattle.utopist_parser.specs.FileSeen.{see_concept, see_compute, see_file}
 use Rattle.utopist_parser.specs.FileNesting.{IsConcept, IsFile}
 use Rattle.utopist_parser.specs.steps.ReadingFile.{concepts_at, computes_at, file_at}
-use Rattle.utopist_parser.proofs.StepLaws.{Form, Aspect}
-use Rattle.utopist_parser.proofs.Sequence.{both}
-use Rattle.utopist_parser.proofs.Recast.{recast, reform_keeps}
-use Rattle.utopist_parser.proofs.Repeat.{FitsAll, repeated, last_stops}
-use Rattle.utopist_parser.proofs.Singles.{after}
-use Rattle.utopist_parser.proofs.Rules.{Rule, Any, fitting_by, after_end, done, done_rule, then_rule, repeat_rule, recast_rule}
+use Rattle.token_forms.proofs.StepLaws.{Form, Aspect}
+use Rattle.token_forms.proofs.Sequence.{both}
+use Rattle.token_forms.proofs.Recast.{recast, reform_keeps}
+use Rattle.token_forms.proofs.Repeat.{FitsAll, repeated, last_stops}
+use Rattle.token_forms.proofs.Singles.{after}
+use Rattle.token_forms.proofs.Rules.{Rule, Any, fitting_by, after_end, done, done_rule, then_rule, repeat_rule, recast_rule}
 use Rattle.utopist_parser.proofs.ConceptRules.{concept_form, concept_grows, concept_rule}
 use Rattle.utopist_parser.proofs.ComputeRules.{compute_form, compute_rule, free_compute}
 

@@ -3,15 +3,15 @@ use Rattle.std.proofs.Common.{ℕ, Bool, List, [], ◌∷◌, Option, Some, None
 use Rattle.std.specs.Prelude.{◌⊎◌}
 use Rattle.utopist_lexer.specs.declared.mark.Mark.{Mark}
 use Rattle.utopist_lexer.specs.declared.token.Kind.{Kind}
-use Rattle.utopist_parser.specs.Symbols.{Symbol}
-use Rattle.utopist_parser.specs.steps.Single.{is_mark}
-use Rattle.utopist_parser.proofs.StepLaws.{Form}
-use Rattle.utopist_parser.proofs.Sequence.{both}
-use Rattle.utopist_parser.proofs.Choice.{either}
-use Rattle.utopist_parser.proofs.Recast.{recast}
-use Rattle.utopist_parser.proofs.Repeat.{FitsAll}
-use Rattle.utopist_parser.proofs.Singles.{after}
-use Rattle.utopist_parser.proofs.Rules.{stop, next_form, separated_form, optional}
+use Rattle.token_forms.specs.Symbols.{Symbol}
+use Rattle.token_forms.specs.steps.Single.{is_mark}
+use Rattle.token_forms.proofs.StepLaws.{Form}
+use Rattle.token_forms.proofs.Sequence.{both}
+use Rattle.token_forms.proofs.Choice.{either}
+use Rattle.token_forms.proofs.Recast.{recast}
+use Rattle.token_forms.proofs.Repeat.{FitsAll}
+use Rattle.token_forms.proofs.Singles.{after}
+use Rattle.token_forms.proofs.Rules.{stop, next_form, separated_form, optional}
 
 pub record Free {X : Type 0} (g : Form X) : Type 0 where
   pub fits : (x : X) (M : ℕ) → g.Fits x M

@@ -3,10 +3,12 @@ use Rattle.std.proofs.Common.{◌≡◌, ℕ, zero, suc, ◌+◌, ◌<◌, ◌�
 use Rattle.std.specs.Prelude.{nat_le, ◌⊎◌}
 use Rattle.std.proofs.lemmas.List.{append-nil}
 use Rattle.body_lang.specs.declared.op.Op.{Op}
-use Rattle.utopist_parser.specs.Symbols.{Symbol}
-use Rattle.utopist_parser.specs.steps.Steps.{Why, Unexpected, TooDeep, Miss, Reading, ReadOf, StepOf, on_ok, next}
+use Rattle.token_forms.specs.Symbols.{Symbol}
+use Rattle.token_forms.specs.declared.parse_stop.Why.{Why}
+use Rattle.token_forms.specs.declared.parse_stop.Why.TheVariants.{Unexpected, TooDeep}
+use Rattle.token_forms.specs.steps.Steps.{Miss, Reading, ReadOf, StepOf, on_ok, next}
 use Rattle.utopist_parser.specs.steps.ReadingExpr.{Nested, op_over, one_more, more_at, group_at}
-use Rattle.utopist_parser.proofs.StepLaws.{reaches_up, AtHead, at_head, Form, Stuck, Further, Took, Blames, AgainAt, Laws, Aspect, again_only, all_laws, Keeps, failed_is, ok_is, then_ok, then_err}
+use Rattle.token_forms.proofs.StepLaws.{reaches_up, AtHead, at_head, Form, Stuck, Further, Took, Blames, AgainAt, Laws, Aspect, again_only, all_laws, Keeps, failed_is, ok_is, then_ok, then_err}
 use Rattle.utopist_parser.proofs.Levels.{level, below}
 
 -- a kind of group: its operators, what one part is, and what the whole is

@@ -15,25 +15,27 @@ use Rattle.utopist_syntax.specs.ExprTree.{ExprTree}
 use Rattle.utopist_syntax.specs.FileTree as tree
 use Rattle.utopist_syntax.specs.FileTree.{ItemTree}
 use Rattle.utopist_parser.specs.declared.breadth.Breadth.TheVariants as breadth
-use Rattle.utopist_parser.specs.Symbols.{Symbol, mark}
-use Rattle.utopist_parser.specs.steps.Steps.{next, meets}
-use Rattle.utopist_parser.specs.steps.Single.{is_word, is_mark}
-use Rattle.utopist_parser.specs.Written.{OneOrMore, WrittenPath, Expression, Chain}
+use Rattle.token_forms.specs.Symbols.{Symbol, mark}
+use Rattle.token_forms.specs.steps.Steps.{next, meets}
+use Rattle.token_forms.specs.steps.Single.{is_word, is_mark}
+use Rattle.token_forms.specs.Lists.{OneOrMore}
+use Rattle.utopist_parser.specs.Written.{WrittenPath, Expression, Chain}
 use Rattle.utopist_parser.specs.WrittenFile.{WrittenBind, WrittenKind, numeric, component, WrittenPart, input, subtask, WrittenItem, var, eq, rel}
-use Rattle.utopist_parser.specs.ExprSymbols.{behind}
-use Rattle.utopist_parser.specs.ExprTree.{all_of, see_expr, see_chain}
+use Rattle.token_forms.specs.Lists.{behind}
+use Rattle.token_forms.specs.Lists.{all_of}
+use Rattle.utopist_parser.specs.ExprTree.{see_expr, see_chain}
 use Rattle.utopist_parser.specs.FileSymbols.{spell_bind, spell_binds, spell_kind, spell_part, spell_parts, spell_body, spell_item}
 use Rattle.utopist_parser.specs.FileSeen.{see_path, see_bind, see_kind, see_binds, see_part, see_item}
 use Rattle.utopist_parser.specs.FileNesting.{IsBody, IsItem}
 use Rattle.utopist_parser.specs.steps.ReadingFile.{bind_at, some_binds_at, binds_at, numeric_at, component_at, kind_at, var_at, eq_at, input_at, subtask_at, part_at, some_parts_at, begins_part, parts_at, some_body_at, body_at, rel_at, item_at, begins_item}
-use Rattle.utopist_parser.proofs.StepLaws.{Form, Aspect}
-use Rattle.utopist_parser.proofs.Sequence.{both}
-use Rattle.utopist_parser.proofs.Recast.{recast, reform_keeps}
-use Rattle.utopist_parser.proofs.Choice.{either, see_either}
-use Rattle.utopist_parser.proofs.Singles.{after, name_form}
-use Rattle.utopist_parser.proofs.Rules.{Rule, fitting_by, name_rule, after_word, after_mark, done, done_rule, stop, stop_rule, then_rule, map_rule, recast_rule, separated_form, separated_stops, separated_rule, either_rule, see_optional, optional, optional_rule}
+use Rattle.token_forms.proofs.StepLaws.{Form, Aspect}
+use Rattle.token_forms.proofs.Sequence.{both}
+use Rattle.token_forms.proofs.Recast.{recast, reform_keeps}
+use Rattle.token_forms.proofs.Choice.{either, see_either}
+use Rattle.token_forms.proofs.Singles.{after, name_form}
+use Rattle.token_forms.proofs.Rules.{Rule, fitting_by, name_rule, after_word, after_mark, done, done_rule, stop, stop_rule, then_rule, map_rule, recast_rule, separated_form, separated_stops, separated_rule, either_rule, see_optional, optional, optional_rule}
 use Rattle.utopist_parser.proofs.PathRules.{names_form, names_rule, path_form, path_rule, path_stops, paths_form, paths_rule, paths_stop}
-use Rattle.utopist_parser.proofs.Meeting.{meets_other}
+use Rattle.token_forms.proofs.Meeting.{meets_other}
 use Rattle.utopist_parser.proofs.Free.{Free, free_after, free_stop, free_both, free_either, free_separated, free_optional, free_recast}
 use Rattle.utopist_parser.proofs.ExprFacts.{closes_chain, closes_expr}
 use Rattle.utopist_parser.proofs.Lows.{chain_form, expr_form}

@@ -1,11 +1,13 @@
 -- Parts that nest: those that fit at a room are nested at most one more, and those one level below at most so deep.
 use Rattle.std.proofs.Common.{◌≡◌, ℕ, zero, suc, ◌≤◌, Bool, true, false, cond, List, [], ◌∷◌, ◌++◌, length, Option, Ok, Err, refl, sym, ap, subst, ◌∙◌, arith, inl, inr}
 use Rattle.std.specs.Prelude.{◌⊎◌}
-use Rattle.utopist_parser.specs.Symbols.{Symbol}
-use Rattle.utopist_parser.specs.steps.Steps.{Why, Unexpected, TooDeep, Miss, Reading, StepOf, next, meets, choose_at, deeper_at}
+use Rattle.token_forms.specs.Symbols.{Symbol}
+use Rattle.token_forms.specs.declared.parse_stop.Why.{Why}
+use Rattle.token_forms.specs.declared.parse_stop.Why.TheVariants.{Unexpected, TooDeep}
+use Rattle.token_forms.specs.steps.Steps.{Miss, Reading, StepOf, next, meets, choose_at, deeper_at}
 use Rattle.utopist_parser.specs.steps.ReadingExpr.{Nested}
-use Rattle.utopist_parser.proofs.StepLaws.{Reaches, AtHead, at_head, Form, Stuck, Further, Took, Blames, AgainAt, Laws, Aspect, again_only, all_laws, Keeps, Fitting, failed_is, same_next}
-use Rattle.utopist_parser.proofs.Choice.{either, see_either, choose_keeps}
+use Rattle.token_forms.proofs.StepLaws.{Reaches, AtHead, at_head, Form, Stuck, Further, Took, Blames, AgainAt, Laws, Aspect, again_only, all_laws, Keeps, Fitting, failed_is, same_next}
+use Rattle.token_forms.proofs.Choice.{either, see_either, choose_keeps}
 
 -- of these parts, which are nested so, those that are allowed
 abbrev pub level : {X : Type 0} → (X → List Symbol) → (X → Nested) → (X → Type 0) → (X → Option Symbol → Type 0) → Form X

@@ -1,7 +1,5 @@
 mod Arguments
 mod Branches
-mod CaseLaws
-mod Choice
 mod ComputeRules
 mod ConceptRules
 mod ExprFacts
@@ -13,9 +11,7 @@ mod Free
 mod Groups
 mod ItemRules
 mod Levels
-mod Loops
 mod Lows
-mod Meeting
 mod NamesSeen
 mod NoEnd
 pub mod OneAnswer
@@ -24,19 +20,9 @@ mod OperatorGroups
 mod PathRules
 mod Places
 mod Productions
-mod Recast
-mod Repeat
 mod Rooms
-mod Rules
 mod SameForms
-mod SameKind
-pub mod Scanning
-mod Sequence
-mod Singles
 mod Shaped
 mod Sliced
-mod Starts
-mod StepLaws
-mod Tokens
 mod Trees
 mod Whole

@@ -3,16 +3,16 @@ use Rattle.std.proofs.Common.{◌≡◌, ℕ, zero, suc, Bool, true, false, List
 use Rattle.std.specs.Prelude.{◌&&◌, None}
 use Rattle.utopist_parser.specs.declared.breadth.Breadth.{Breadth}
 use Rattle.utopist_parser.specs.declared.breadth.Breadth.TheVariants as breadth
-use Rattle.utopist_parser.specs.Symbols.{Symbol}
-use Rattle.utopist_parser.specs.steps.Steps.{StepOf, next, meets, choose_at, deeper_at}
+use Rattle.token_forms.specs.Symbols.{Symbol}
+use Rattle.token_forms.specs.steps.Steps.{StepOf, next, meets, choose_at, deeper_at}
 use Rattle.utopist_parser.specs.Written.{Expression, Chain, Term, Factor}
 use Rattle.utopist_parser.specs.ExprSymbols.{spell_expr, spell_chain, spell_term, spell_factor}
 use Rattle.utopist_parser.specs.steps.ReadingExpr.{Nested, is_all, levels_within}
-use Rattle.utopist_parser.proofs.StepLaws.{Form, AgainAt, Aspect, again_only, all_laws, Keeps}
-use Rattle.utopist_parser.proofs.Recast.{reform, reform_keeps}
-use Rattle.utopist_parser.proofs.Choice.{either, see_either, never_keeps}
+use Rattle.token_forms.proofs.StepLaws.{Form, AgainAt, Aspect, again_only, all_laws, Keeps}
+use Rattle.token_forms.proofs.Recast.{reform, reform_keeps}
+use Rattle.token_forms.proofs.Choice.{either, see_either, never_keeps}
 use Rattle.utopist_parser.proofs.Levels.{level, below, IfRoom, Rounds, deep_keeps}
-use Rattle.utopist_parser.proofs.Rules.{Rule, fitting_by}
+use Rattle.token_forms.proofs.Rules.{Rule, fitting_by}
 use Rattle.utopist_parser.proofs.ExprFacts.{seen_factor, seen_term, seen_chain, seen_expr, AllowedFactor, AllowedTerm, AllowedChain, AllowedExpr, FactorStops, TermStops, ChainStops, ExprStops}
 
 -- ---- forms

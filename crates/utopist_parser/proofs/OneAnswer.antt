@@ -10,7 +10,7 @@ use Rattle.utopist_lexer.proofs.OneWay.{NoToken, none_at_fault, none_at_end, sta
 use Rattle.utopist_syntax.specs.FileTree.{FileTree}
 use Rattle.utopist_parser.specs.declared.parser.ParseFault.{ParseFault}
 use Rattle.utopist_parser.specs.declared.parser.ParseFault.TheVariants as fault
-use Rattle.utopist_parser.specs.Symbols.{Symbol, symbol_of, end}
+use Rattle.token_forms.specs.Symbols.{Symbol, symbol_of, end}
 use Rattle.utopist_parser.specs.FileSymbols.{spell_file}
 use Rattle.utopist_parser.specs.FileSeen.{see_file}
 use Rattle.utopist_parser.specs.Begins.{max_nesting, BeginsWithin, BeginsFile, BeginsNone, BeginsTooDeep, SymbolAt, FirstWrong}

@@ -6,12 +6,13 @@ use Rattle.utopist_syntax.specs.ExprTree.{ExprTree, op}
 use Rattle.utopist_parser.specs.declared.breadth.Breadth.{Breadth}
 use Rattle.utopist_parser.specs.declared.group.Group.{Group}
 use Rattle.utopist_parser.specs.declared.group.Group.TheVariants as group
-use Rattle.utopist_parser.specs.declared.parse_stop.ParseStop.{ParseStop}
-use Rattle.utopist_parser.specs.Symbols.{Symbol}
-use Rattle.utopist_parser.specs.steps.Steps.{Reading, ReadOf, Miss, TooDeep, next}
+use Rattle.token_forms.specs.declared.parse_stop.ParseStop.{ParseStop}
+use Rattle.token_forms.specs.Symbols.{Symbol}
+use Rattle.token_forms.specs.declared.parse_stop.Why.TheVariants.{TooDeep}
+use Rattle.token_forms.specs.steps.Steps.{Reading, ReadOf, Miss, next}
 use Rattle.utopist_parser.specs.steps.ReadingExpr.{Nested, op_over, more_at, Levels, levels_within, factor_at, term_at, chain_at, operator_of, group_within, operand_at}
-use Rattle.utopist_parser.specs.steps.Answers.{Fails}
-use Rattle.utopist_parser.proofs.Loops.{fails_on}
+use Rattle.token_forms.specs.steps.Answers.{Fails}
+use Rattle.token_forms.proofs.Loops.{fails_on}
 
 -- the test whether a number is small enough
 at_most : (n m : ℕ) → n ≤ m → nat_le n m ≡ true

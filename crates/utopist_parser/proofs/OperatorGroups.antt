@@ -6,16 +6,16 @@ use Rattle.utopist_lexer.specs.declared.mark.Mark.{Mark}
 use Rattle.utopist_lexer.specs.declared.token.Kind.TheVariants as kinds
 use Rattle.utopist_parser.specs.declared.breadth.Breadth.{Breadth}
 use Rattle.utopist_parser.specs.declared.breadth.Breadth.TheVariants as breadth
-use Rattle.utopist_parser.specs.Symbols.{Symbol, mark}
-use Rattle.utopist_parser.specs.steps.Steps.{meets}
-use Rattle.utopist_parser.specs.steps.Single.{is_mark}
+use Rattle.token_forms.specs.Symbols.{Symbol, mark}
+use Rattle.token_forms.specs.steps.Steps.{meets}
+use Rattle.token_forms.specs.steps.Single.{is_mark}
 use Rattle.utopist_parser.specs.Written.{Sign, plus, minus, Scale, times, over, Chain, one_term, add, Term, one_factor, mul, Factor, literal}
 use Rattle.utopist_parser.specs.ExprSymbols.{sign_mark, scale_mark, spell_chain, spell_term, spell_factor}
 use Rattle.utopist_parser.specs.ExprTree.{sign_op, scale_op}
 use Rattle.utopist_parser.specs.Arithmetic.{IsArith, IsArithTerm, IsArithFactor}
 use Rattle.utopist_parser.specs.steps.ReadingExpr.{Nested, sign_of, scale_of, op_over}
-use Rattle.utopist_parser.proofs.SameKind.{some_same}
-use Rattle.utopist_parser.proofs.Singles.{fixed_is}
+use Rattle.token_forms.proofs.SameKind.{some_same}
+use Rattle.token_forms.proofs.Singles.{fixed_is}
 use Rattle.utopist_parser.proofs.ExprFacts.{seen_factor, seen_term, seen_chain, term_nest, chain_nest, InBreadth, FactorStops, LastFactor, TermStops, LastTerm, last_factor_stops, last_term_stops}
 use Rattle.utopist_parser.proofs.Groups.{Grouping}
 

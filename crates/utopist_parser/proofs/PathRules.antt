@@ -3,17 +3,18 @@ use Rattle.std.proofs.Common.{◌≡◌, ℕ, false, List, [], ◌∷◌, map, O
 use Rattle.utopist_lexer.specs.declared.mark.Mark.TheVariants as marks
 use Rattle.utopist_lexer.specs.declared.token.Kind.TheVariants as kinds
 use Rattle.utopist_syntax.specs.Named.{Named}
-use Rattle.utopist_parser.specs.Symbols.{Symbol}
-use Rattle.utopist_parser.specs.steps.Steps.{StepOf, meets}
-use Rattle.utopist_parser.specs.steps.Single.{is_mark}
+use Rattle.token_forms.specs.Symbols.{Symbol}
+use Rattle.token_forms.specs.steps.Steps.{StepOf, meets}
+use Rattle.token_forms.specs.steps.Single.{is_mark}
 use Rattle.utopist_parser.specs.steps.Lists.{names_at, path_at, paths_at}
-use Rattle.utopist_parser.specs.Written.{OneOrMore, WrittenPath}
-use Rattle.utopist_parser.specs.ExprTree.{all_of}
+use Rattle.token_forms.specs.Lists.{OneOrMore}
+use Rattle.utopist_parser.specs.Written.{WrittenPath}
+use Rattle.token_forms.specs.Lists.{all_of}
 use Rattle.utopist_parser.specs.FileSeen.{see_path}
-use Rattle.utopist_parser.proofs.StepLaws.{Form, Aspect}
-use Rattle.utopist_parser.proofs.Singles.{name_form}
-use Rattle.utopist_parser.proofs.Rules.{Rule, name_rule, map_rule, recast_rule, separated_form, separated_stops, separated_rule}
-use Rattle.utopist_parser.proofs.Meeting.{meets_other}
+use Rattle.token_forms.proofs.StepLaws.{Form, Aspect}
+use Rattle.token_forms.proofs.Singles.{name_form}
+use Rattle.token_forms.proofs.Rules.{Rule, name_rule, map_rule, recast_rule, separated_form, separated_stops, separated_rule}
+use Rattle.token_forms.proofs.Meeting.{meets_other}
 
 -- a rule with what it means said in other words
 pub seen_rule : {X V : Type 0} {m : Aspect} {room : ℕ} {g : Form X} {see : X → V} {f : StepOf V} (see_c : X → V) → ((x : X) → see x ≡ see_c x) → Rule m room g see f → Rule m room g see_c f

@@ -8,7 +8,7 @@ use Rattle.utopist_lexer.specs.Places.{Stands}
 use Rattle.utopist_lexer.specs.Lexical.{Tok, IsToken}
 use Rattle.utopist_lexer.specs.Tokens.{ReadsTo}
 use Rattle.utopist_lexer.specs.Scanning.{tok}
-use Rattle.utopist_parser.specs.Symbols.{Symbol, symbol_of, symbol, symbols}
+use Rattle.token_forms.specs.Symbols.{Symbol, symbol_of, symbol, symbols}
 
 -- a list split where another one is
 pub record SplitAt (items : List Token) (front : List Symbol) (c : Symbol) : Type 0 where

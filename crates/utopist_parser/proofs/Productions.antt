@@ -12,20 +12,22 @@ use Rattle.utopist_lexer.specs.declared.token.Kind.TheVariants as kinds
 use Rattle.utopist_syntax.specs.Named.{Named}
 use Rattle.utopist_syntax.specs.ExprTree as tree
 use Rattle.utopist_parser.specs.declared.breadth.Breadth.{Breadth}
-use Rattle.utopist_parser.specs.Symbols.{Symbol, word, mark}
-use Rattle.utopist_parser.specs.steps.Steps.{meets, pick_at}
-use Rattle.utopist_parser.specs.steps.Single.{is_word, is_mark}
-use Rattle.utopist_parser.specs.Written.{OneOrMore, Expression, Chain, Factor}
+use Rattle.token_forms.specs.Symbols.{Symbol, word, mark}
+use Rattle.token_forms.specs.steps.Steps.{meets, pick_at}
+use Rattle.token_forms.specs.steps.Single.{is_word, is_mark}
+use Rattle.token_forms.specs.Lists.{OneOrMore}
+use Rattle.utopist_parser.specs.Written.{Expression, Chain, Factor}
 use Rattle.utopist_parser.specs.ExprSymbols.{cmp_mark, loop_word}
-use Rattle.utopist_parser.specs.ExprTree.{all_of, see_expr, see_chain, see_factor}
+use Rattle.token_forms.specs.Lists.{all_of}
+use Rattle.utopist_parser.specs.ExprTree.{see_expr, see_chain, see_factor}
 use Rattle.utopist_parser.specs.Nesting.{nest_expr, nest_chain, nest_factor}
 use Rattle.utopist_parser.specs.steps.ReadingExpr.{Nested, cmp_of, loop_of, trees_in, most, negated_step, round_step, call_step, loop_step, choice_step}
-use Rattle.utopist_parser.proofs.SameKind.{some_same}
-use Rattle.utopist_parser.proofs.StepLaws.{Form, Aspect}
-use Rattle.utopist_parser.proofs.Sequence.{both}
-use Rattle.utopist_parser.proofs.Tokens.{one_symbol, pick_keeps}
-use Rattle.utopist_parser.proofs.Singles.{fixed_is, after, name_form, sub_form}
-use Rattle.utopist_parser.proofs.Rules.{Rule, fitting, name_rule, sub_rule, after_word, after_mark, stop, stop_rule, then_rule, map_rule, separated_form, separated_stops, separated_rule}
+use Rattle.token_forms.proofs.SameKind.{some_same}
+use Rattle.token_forms.proofs.StepLaws.{Form, Aspect}
+use Rattle.token_forms.proofs.Sequence.{both}
+use Rattle.token_forms.proofs.Tokens.{one_symbol, pick_keeps}
+use Rattle.token_forms.proofs.Singles.{fixed_is, after, name_form, sub_form}
+use Rattle.token_forms.proofs.Rules.{Rule, fitting, name_rule, sub_rule, after_word, after_mark, stop, stop_rule, then_rule, map_rule, separated_form, separated_stops, separated_rule}
 use Rattle.utopist_parser.proofs.ExprFacts.{seen_expr, IsCloser, closes_chain, closes_expr}
 use Rattle.utopist_parser.proofs.Lows.{low_factor_form, low_chain_form, low_expr_form, low_factor, low_chain, low_expr, LowRules}
 

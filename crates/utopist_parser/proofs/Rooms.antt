@@ -6,10 +6,11 @@ use Rattle.utopist_lexer.specs.declared.mark.Mark.TheVariants as marks
 use Rattle.utopist_lexer.specs.declared.token.Kind.{Kind}
 use Rattle.utopist_lexer.specs.declared.token.Kind.TheVariants as kinds
 use Rattle.utopist_syntax.specs.ExprTree.{num, path, neg, choice, loop, call}
-use Rattle.utopist_parser.specs.Symbols.{Symbol}
-use Rattle.utopist_parser.specs.steps.Steps.{StepOf, ReadOf, on_ok, token_at, pick_at, repeat_fuel}
-use Rattle.utopist_parser.specs.steps.Single.{want_kind, want_name, want_number, want_sub, natural, is_mark, fixed_at, name_at, number_at, sub_at}
-use Rattle.utopist_parser.specs.steps.Lists.{separated_at, path_at}
+use Rattle.token_forms.specs.Symbols.{Symbol}
+use Rattle.token_forms.specs.steps.Steps.{StepOf, ReadOf, on_ok, token_at, pick_at, repeat_fuel}
+use Rattle.token_forms.specs.steps.Single.{want_kind, want_name, want_number, want_sub, natural, is_mark, fixed_at, name_at, number_at, sub_at}
+use Rattle.token_forms.specs.steps.Lists.{separated_at}
+use Rattle.utopist_parser.specs.steps.Lists.{path_at}
 use Rattle.utopist_parser.specs.steps.ReadingExpr.{Nested, settled, most, trees_in, negated_step, round_step, call_step, loop_of, loop_step, cmp_of, choice_step, literal_step, variable_step}
 
 -- one symbol

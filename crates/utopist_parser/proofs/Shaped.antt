@@ -7,9 +7,11 @@ use Rattle.utopist_syntax.specs.ExprTree as tree
 use Rattle.utopist_syntax.specs.ExprTree.{ExprTree, ExprTrees}
 use Rattle.utopist_syntax.specs.FileTree.{FileTree}
 use Rattle.utopist_syntax.specs.Shape.{HasName, AreSomePaths, HasExprShape, HaveExprShape, HasBodyShape, HasBindShape, HasPartShape, HasItemShape, HasConceptShape, HasComputeShape, HasShape}
-use Rattle.utopist_parser.specs.Written.{OneOrMore, WrittenPath, Expression, choice, plain, Chain, one_term, add, Term, one_factor, mul, Factor, negated, literal, variable, round, call, loop, Further, no_more, and_then}
+use Rattle.token_forms.specs.Lists.{OneOrMore}
+use Rattle.utopist_parser.specs.Written.{WrittenPath, Expression, choice, plain, Chain, one_term, add, Term, one_factor, mul, Factor, negated, literal, variable, round, call, loop, Further, no_more, and_then}
 use Rattle.utopist_parser.specs.WrittenFile.{WrittenKind, numeric, component, WrittenPart, input, subtask, WrittenItem, var, eq, rel, WrittenConcept, WrittenCompute}
-use Rattle.utopist_parser.specs.ExprTree.{all_of, see_expr, see_chain, see_term, see_factor, see_exprs}
+use Rattle.token_forms.specs.Lists.{all_of}
+use Rattle.utopist_parser.specs.ExprTree.{see_expr, see_chain, see_term, see_factor, see_exprs}
 use Rattle.utopist_parser.specs.FileSeen.{all_if_any, see_option, see_path, see_bind, see_binds, see_part, see_item, see_concept, see_given, see_compute}
 use Rattle.utopist_parser.specs.Forms.{ReadsAs}
 

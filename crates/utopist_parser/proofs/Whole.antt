@@ -15,18 +15,20 @@ use Rattle.utopist_lexer.proofs.OneWay.{one_list, not_both}
 use Rattle.utopist_syntax.specs.declared.file.File.{File}
 use Rattle.utopist_syntax.specs.FileTree.{FileTree, file_tree}
 use Rattle.utopist_parser.specs.declared.parser.ParseFault.TheVariants as fault
-use Rattle.utopist_parser.specs.Symbols.{Symbol, symbol_of, symbol, symbols, end}
-use Rattle.utopist_parser.specs.steps.Views.{end_at, WholeTokens, FaultyTokens, TokensOf}
+use Rattle.token_forms.specs.Symbols.{Symbol, symbol_of, symbol, symbols, end}
+use Rattle.token_forms.specs.steps.Views.{end_at, WholeTokens, FaultyTokens, TokensOf}
 use Rattle.utopist_parser.specs.WrittenFile.{WrittenFile}
 use Rattle.utopist_parser.specs.FileSymbols.{spell_file}
 use Rattle.utopist_parser.specs.FileSeen.{see_file}
 use Rattle.utopist_parser.specs.FileNesting.{IsFile}
 use Rattle.utopist_parser.specs.Begins.{BeginsWithin, BeginsNone, BeginsTooDeep, FirstWrong}
 use Rattle.utopist_parser.specs.Forms.{ReadsAs, FirstFault, HasNoTree, ParseOf}
-use Rattle.utopist_parser.specs.steps.Steps.{Reading, Why, Miss, Unexpected, TooDeep}
+use Rattle.token_forms.specs.declared.parse_stop.Why.{Why}
+use Rattle.token_forms.specs.declared.parse_stop.Why.TheVariants.{Unexpected, TooDeep}
+use Rattle.token_forms.specs.steps.Steps.{Reading, Miss}
 use Rattle.utopist_parser.specs.steps.ReadingFile.{file_at}
 use Rattle.utopist_parser.specs.steps.Answers.{PlaceFrom, PlaceOf, fault_by}
-use Rattle.utopist_parser.proofs.StepLaws.{AtHead, Stuck, Further, Blames, Laws, all_laws}
+use Rattle.token_forms.proofs.StepLaws.{AtHead, Stuck, Further, Blames, Laws, all_laws}
 use Rattle.utopist_parser.proofs.FileRules.{file_grows, file_form, file_rule}
 use Rattle.utopist_parser.proofs.NoEnd.{front_of, front_no_end, file_ends, reads_no_end, ends_once, no_end_inside}
 use Rattle.utopist_parser.proofs.Places.{SplitAt, split_at, drop_to, symbols_inside, inside, last_or}

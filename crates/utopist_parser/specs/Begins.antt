@@ -4,7 +4,7 @@ use Rattle.priz_base.specs.declared.place.Place.{Place}
 use Rattle.utopist_lexer.specs.Places.{Stands}
 use Rattle.utopist_lexer.specs.Lexical.{Tok, IsToken}
 use Rattle.utopist_lexer.specs.Tokens.{ReadsTo}
-use Rattle.utopist_parser.specs.Symbols.{Symbol, symbol_of, end}
+use Rattle.token_forms.specs.Symbols.{Symbol, symbol_of, end}
 use Rattle.utopist_parser.specs.WrittenFile.{WrittenFile}
 use Rattle.utopist_parser.specs.FileSymbols.{spell_file}
 use Rattle.utopist_parser.specs.FileNesting.{IsFile}

@@ -9,7 +9,7 @@ use Rattle.utopist_lexer.specs.declared.mark.Mark.TheVariants as marks
 use Rattle.utopist_syntax.specs.Named.{Named}
 use Rattle.utopist_syntax.specs.ExprTree as tree
 use Rattle.utopist_syntax.specs.ExprTree.{ExprTree}
-use Rattle.utopist_parser.specs.Symbols.{Symbol, name, sub, number, word, mark}
+use Rattle.token_forms.specs.Symbols.{Symbol, name, sub, number, word, mark}
 use Rattle.utopist_parser.specs.Written.{plus, minus, times, Expression, choice, plain, Chain, one_term, add, Term, one_factor, mul, Factor, negated, literal, variable, round, call, loop, no_more, and_then}
 use Rattle.utopist_parser.specs.ExprSymbols.{spell_chain}
 use Rattle.utopist_parser.specs.ExprTree.{see_chain}

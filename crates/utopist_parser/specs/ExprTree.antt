@@ -1,14 +1,11 @@
 -- The tree of what is written as an expression: parentheses vanish.
-use Rattle.std.specs.Prelude.{pos, List, ◌∷◌}
+use Rattle.std.specs.Prelude.{pos}
 use Rattle.body_lang.specs.declared.op.Op.{Op}
 use Rattle.body_lang.specs.declared.op.Op.TheVariants as ops
 use Rattle.utopist_syntax.specs.ExprTree as tree
 use Rattle.utopist_syntax.specs.ExprTree.{ExprTree, ExprTrees}
-use Rattle.utopist_parser.specs.Written.{OneOrMore, Sign, plus, minus, Scale, times, over, Expression, choice, plain, Chain, one_term, add, Term, one_factor, mul, Factor, negated, literal, variable, round, call, loop, Further, no_more, and_then}
-
--- all the parts in order
-abbrev pub all_of : {X : Type 0} → OneOrMore X → List X
-all_of xs = xs.first ∷ xs.more
+use Rattle.utopist_parser.specs.Written.{Sign, plus, minus, Scale, times, over, Expression, choice, plain, Chain, one_term, add, Term, one_factor, mul, Factor, negated, literal, variable, round, call, loop, Further, no_more, and_then}
+use Rattle.token_forms.specs.Lists.{all_of}
 
 -- the operator of a sign
 abbrev pub sign_op : Sign → Op

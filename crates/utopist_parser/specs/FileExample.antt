@@ -9,7 +9,7 @@ use Rattle.utopist_syntax.specs.Named.{Named}
 use Rattle.utopist_syntax.specs.ExprTree as tree
 use Rattle.utopist_syntax.specs.FileTree as file
 use Rattle.utopist_syntax.specs.FileTree.{FileTree}
-use Rattle.utopist_parser.specs.Symbols.{Symbol, name, number, word, mark, end}
+use Rattle.token_forms.specs.Symbols.{Symbol, name, number, word, mark, end}
 use Rattle.utopist_parser.specs.Written.{plus, times, plain, add, one_term, mul, negated, literal, round}
 use Rattle.utopist_parser.specs.WrittenFile.{numeric, var, eq, WrittenFile}
 use Rattle.utopist_parser.specs.FileSymbols.{spell_file}

@@ -8,7 +8,7 @@ use Rattle.utopist_syntax.specs.declared.file.File.{File}
 use Rattle.utopist_syntax.specs.FileTree.{FileTree, file_tree}
 use Rattle.utopist_parser.specs.declared.parser.ParseFault.{ParseFault}
 use Rattle.utopist_parser.specs.declared.parser.ParseFault.TheVariants as fault
-use Rattle.utopist_parser.specs.Symbols.{symbol_of, end}
+use Rattle.token_forms.specs.Symbols.{symbol_of, end}
 use Rattle.utopist_parser.specs.WrittenFile.{WrittenFile}
 use Rattle.utopist_parser.specs.FileSymbols.{spell_file}
 use Rattle.utopist_parser.specs.FileSeen.{see_file}

@@ -1,4 +1,3 @@
-pub mod Symbols
 pub mod Written
 pub mod ExprSymbols
 pub mod ExprTree

@@ -1,12 +1,11 @@
 //! The kind of a variable, and the bindings of a component.
 ghost use Rattle.std.specs.Prelude.{◌≡◌, ◌<◌, ◌≤◌, length, OnOk};
-ghost use Rattle.utopist_parser.specs.steps.Answers.{ReadBy};
+ghost use Rattle.token_forms.specs.steps.Answers.{ReadBy};
 ghost use Rattle.utopist_parser.specs.steps.ReadingFile.{bind_at, binds_at, numeric_at, component_at, kind_at};
 
-use crate::parse_stop::ParseStop;
 use crate::production::{Production, separated};
-use crate::reader::Reader;
 use sqlite_items::Items;
+use token_forms::{ParseStop, Reader};
 use utopist_lexer::{Mark, Word};
 use utopist_syntax::{Bind, Path, VarKind};
 

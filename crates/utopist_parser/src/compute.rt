@@ -3,13 +3,12 @@ ghost use Rattle.std.specs.Prelude.{◌≡◌, ◌<◌, length, OnOk};
 ghost use Rattle.utopist_lexer.specs.declared.word.Word.TheVariants.{Compute as compute_word};
 ghost use Rattle.utopist_syntax.specs.declared.compute.Compute.{Compute as ComputeTree};
 ghost use Rattle.utopist_parser.specs.steps.ReadingFile.{compute_at};
-ghost use Rattle.utopist_parser.specs.steps.Single.{is_word};
+ghost use Rattle.token_forms.specs.steps.Single.{is_word};
 
 use crate::entry::Entry;
 use crate::given::read_givens;
-use crate::parse_stop::ParseStop;
 use crate::paths::read_paths;
-use crate::reader::Reader;
+use token_forms::{ParseStop, Reader};
 use utopist_lexer::{Mark, Word};
 use utopist_syntax::Compute;
 

@@ -2,15 +2,14 @@
 ghost use Rattle.std.specs.Prelude.{◌≡◌, ◌<◌, ◌≤◌, length, map, OnOk};
 ghost use Rattle.utopist_lexer.specs.declared.word.Word.TheVariants.{Concept as concept_word};
 ghost use Rattle.utopist_syntax.specs.FileTree.{ConceptTree, item_tree, concept_tree};
-ghost use Rattle.utopist_parser.specs.steps.Answers.{ReadBy, ReadThrough};
+ghost use Rattle.token_forms.specs.steps.Answers.{ReadBy, ReadThrough};
 ghost use Rattle.utopist_parser.specs.steps.ReadingFile.{items_at, parents_at, concept_at};
-ghost use Rattle.utopist_parser.specs.steps.Single.{is_word};
+ghost use Rattle.token_forms.specs.steps.Single.{is_word};
 
 use crate::entry::{Entry, repeated};
-use crate::parse_stop::ParseStop;
 use crate::paths::read_names;
-use crate::reader::Reader;
 use sqlite_items::Items;
+use token_forms::{ParseStop, Reader};
 use utopist_lexer::{Mark, Word};
 use utopist_syntax::{Concept, Item, Name};
 

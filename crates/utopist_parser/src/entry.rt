@@ -1,12 +1,11 @@
 //! What stands one after another with nothing between, as items and concepts do.
 ghost use Rattle.std.specs.Prelude.{◌≡◌, ◌<◌, ◌≤◌, Bool, length, map, OnOk};
-ghost use Rattle.utopist_parser.specs.steps.Answers.{ReadThrough};
-ghost use Rattle.utopist_parser.specs.steps.Steps.{StepOf, next, meets, repeat_at};
-ghost use Rattle.utopist_parser.specs.Symbols.{Symbol};
+ghost use Rattle.token_forms.specs.steps.Answers.{ReadThrough};
+ghost use Rattle.token_forms.specs.steps.Steps.{StepOf, next, meets, repeat_at};
+ghost use Rattle.token_forms.specs.Symbols.{Symbol};
 
-use crate::parse_stop::ParseStop;
-use crate::reader::Reader;
 use sqlite_items::Items;
+use token_forms::{ParseStop, Reader};
 
 /// What its first token announces. Contracts see it as its plain tree.
 pub trait Entry<'a>: Drop {

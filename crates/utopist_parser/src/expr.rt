@@ -1,8 +1,8 @@
 //! Expressions.
 ghost use Rattle.std.specs.Prelude.{◌≡◌, ◌<◌, ◌≤◌, ◌+◌, ◌-◌, suc, length, Ok, IfOk, OnOk};
-ghost use Rattle.utopist_parser.specs.steps.Answers.{Gives, ReadThrough};
+ghost use Rattle.token_forms.specs.steps.Answers.{Gives, ReadThrough};
 ghost use Rattle.utopist_parser.specs.steps.ReadingExpr.{as_nested, settled, begins_call, begins_loop, begins_choice, factor_at, expr_at, group_within, operand_at};
-ghost use Rattle.utopist_parser.specs.steps.Steps.{next, meets, deeper};
+ghost use Rattle.token_forms.specs.steps.Steps.{next, meets, deeper};
 
 use crate::breadth::{Breadth, MOST_ROOM};
 use crate::forms::{
@@ -12,8 +12,7 @@ use crate::group::Group;
 use crate::nested::NestedExpr;
 use crate::nodes::operation_of;
 use crate::operators::operator_of;
-use crate::parse_stop::ParseStop;
-use crate::reader::Reader;
+use token_forms::{ParseStop, Reader};
 use utopist_lexer::{Kind, Mark, Word};
 
 #[cycle(reading)]

@@ -3,10 +3,10 @@ ghost use Rattle.std.specs.Prelude.{◌≡◌, ◌<◌, ◌≤◌, ◌+◌, ℕ,
 ghost use Rattle.utopist_lexer.specs.declared.mark.Mark.TheVariants.{Comma};
 ghost use Rattle.utopist_syntax.specs.ExprTree.{ExprTrees};
 ghost use Rattle.utopist_syntax.specs.View.{trees_of};
-ghost use Rattle.utopist_parser.specs.steps.Answers.{Gives, ReadThrough};
-ghost use Rattle.utopist_parser.specs.steps.Lists.{separated_at};
+ghost use Rattle.token_forms.specs.steps.Answers.{Gives, ReadThrough};
+ghost use Rattle.token_forms.specs.steps.Lists.{separated_at};
 ghost use Rattle.utopist_parser.specs.steps.ReadingExpr.{as_nested, settled, behind_step, negated_step, round_step, call_step, loop_step, choice_step, literal_step, variable_step, trees_in, most, factor_at, chain_at, expr_at};
-ghost use Rattle.utopist_parser.specs.steps.Steps.{on_ok};
+ghost use Rattle.token_forms.specs.steps.Steps.{on_ok};
 
 use crate::breadth::{Breadth, MOST_ROOM};
 use crate::expr::{read_expr, read_factor, read_group};
@@ -14,10 +14,9 @@ use crate::group::Group;
 use crate::nested::NestedExpr;
 use crate::nodes::{call_of, choice_of, loop_of, negation_of, number_of, variable_of};
 use crate::operators::{read_cmp, read_loop_kind};
-use crate::parse_stop::ParseStop;
 use crate::production::Production;
-use crate::reader::Reader;
 use sqlite_items::Items;
+use token_forms::{ParseStop, Reader};
 use utopist_lexer::{Kind, Mark, Word};
 use utopist_syntax::{Expr, Path};
 

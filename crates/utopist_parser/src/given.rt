@@ -2,14 +2,13 @@
 ghost use Rattle.std.specs.Prelude.{◌≡◌, ◌<◌, ◌≤◌, pos, ◌≤ℤ◌, ◌<ℤ◌, unsigned_abs, length, IfOk, OnOk};
 ghost use Rattle.priz_frac.specs.Lowest.{low};
 ghost use Rattle.priz_frac.specs.Sign.{signed_number, signed_ratio};
-ghost use Rattle.utopist_parser.specs.steps.Answers.{ReadBy};
+ghost use Rattle.token_forms.specs.steps.Answers.{ReadBy};
 ghost use Rattle.utopist_parser.specs.steps.ReadingFile.{negative_at, below_at, given_value_at, given_at, givens_at};
 
-use crate::parse_stop::ParseStop;
 use crate::production::{Production, separated};
-use crate::reader::Reader;
 use priz_frac::Frac;
 use sqlite_items::Items;
+use token_forms::{ParseStop, Reader};
 use utopist_lexer::{Mark, Word};
 use utopist_syntax::{GivenPath, Path};
 

@@ -1,7 +1,7 @@
 //! Items.
 ghost use Rattle.std.specs.Prelude.{◌≡◌, ◌<◌, ◌≤◌, length, OnOk};
 ghost use Rattle.utopist_syntax.specs.FileTree.{ItemTree, body_expr_tree, item_tree};
-ghost use Rattle.utopist_parser.specs.steps.Answers.{ReadThrough};
+ghost use Rattle.token_forms.specs.steps.Answers.{ReadThrough};
 ghost use Rattle.utopist_parser.specs.steps.ReadingFile.{var_at, eq_at, body_at, rel_at, item_at, begins_item};
 
 use crate::binds::read_kind;
@@ -9,11 +9,10 @@ use crate::breadth::{Breadth, MOST_ROOM};
 use crate::entry::Entry;
 use crate::expr::{read_expr, read_group};
 use crate::group::Group;
-use crate::parse_stop::ParseStop;
 use crate::parts::read_parts;
 use crate::paths::read_names;
 use crate::production::Production;
-use crate::reader::Reader;
+use token_forms::{ParseStop, Reader};
 use utopist_lexer::{Mark, Word};
 use utopist_syntax::{Expr, Item, Path};
 

@@ -1,20 +1,20 @@
 //! Laws of the grammar.
-ghost use Rattle.std.specs.Prelude.{◌≡◌, ◌↔◌, ◌++◌, ℕ, List};
+ghost use Rattle.std.specs.Prelude.{◌≡◌, ◌↔◌, ℕ, List};
 ghost use Rattle.utopist_syntax.specs.FileTree.{FileTree};
 ghost use Rattle.utopist_parser.specs.declared.parser.ParseFault.{ParseFault};
 ghost use Rattle.utopist_parser.specs.Forms.{ReadsAs, FailsAs};
-ghost use Rattle.utopist_parser.specs.Symbols.{Symbol};
+ghost use Rattle.token_forms.specs.Symbols.{Symbol};
 ghost use Rattle.utopist_parser.specs.WrittenFile.{WrittenFile};
 ghost use Rattle.utopist_parser.specs.FileSymbols.{spell_file};
 ghost use Rattle.utopist_parser.specs.FileNesting.{IsFile};
 ghost use Rattle.utopist_parser.specs.Begins.{BeginsWithin};
-ghost use Rattle.utopist_parser.specs.Cases.{Form, AreForm, BeginForm, file_form};
+ghost use Rattle.token_forms.specs.Forms.{AreForm, BeginForm};
+ghost use Rattle.utopist_parser.specs.Cases.{file_form};
 ghost use Rattle.utopist_parser.specs.Examples.{DifferencesGroupFromTheLeft, ParenthesesVanish, ChoicesHoldCallsAndLoops, EachTermAndEachParenthesisCounts, NumbersAreInLowestTerms};
 ghost use Rattle.utopist_parser.specs.FileExample.{AFileIsRead};
 
-/// Symbols begin a form, case by case, exactly where some symbols of the form go on with them; and so for a file within a limit on nesting.
+/// Symbols begin a file within a limit on nesting, case by case, exactly where some symbols of such a file go on with them.
 pub fn symbols_begin_what_goes_on()
-    ensures forms { (f : Form) (ts : List Symbol) → BeginForm f ts ↔ ((more : List Symbol) × AreForm f (ts ++ more)) }
     ensures files { (limit : ℕ) (ts : List Symbol) → AreForm (file_form limit) ts ↔ ((w : WrittenFile) × IsFile limit w × (spell_file w ≡ ts)) }
     ensures begins { (limit : ℕ) (ts : List Symbol) → BeginForm (file_form limit) ts ↔ BeginsWithin limit ts }
 {}

@@ -16,13 +16,10 @@ mod laws;
 mod nested;
 mod nodes;
 mod operators;
-mod parse_stop;
 mod parser;
 mod parts;
 mod paths;
 mod production;
-mod reader;
-mod scan;
 
 pub use laws::{
     examples_are_read_as_they_should, symbols_begin_what_goes_on, texts_have_one_answer,

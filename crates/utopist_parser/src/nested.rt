@@ -1,4 +1,4 @@
-use crate::parse_stop::ParseStop;
+use token_forms::ParseStop;
 use utopist_syntax::Expr;
 
 /// An expression and how deep it is nested, or why there is none.

@@ -1,13 +1,12 @@
 //! Operators, comparisons and kinds of loops.
 ghost use Rattle.std.specs.Prelude.{◌≡◌, ◌<◌, length, OnOk};
-ghost use Rattle.utopist_parser.specs.steps.Answers.{ReadBy};
+ghost use Rattle.token_forms.specs.steps.Answers.{ReadBy};
 ghost use Rattle.utopist_parser.specs.steps.ReadingExpr.{sign_of, scale_of, operator_of, loop_of, cmp_of};
-ghost use Rattle.utopist_parser.specs.steps.Steps.{next, pick_at};
+ghost use Rattle.token_forms.specs.steps.Steps.{next, pick_at};
 
 use crate::group::Group;
-use crate::parse_stop::ParseStop;
-use crate::reader::Reader;
 use body_lang::{Cmp, LoopKind, Op};
+use token_forms::{ParseStop, Reader};
 use utopist_lexer::{Mark, Word};
 
 /// The operator of a group that stands there.

@@ -8,11 +8,9 @@ ghost use Rattle.utopist_parser.specs.Forms.{ParseOf};
 ghost use Rattle.utopist_parser.specs.Slices.{AllSlices};
 
 use crate::file::read_file;
-use crate::parse_stop::{ParseStop, Why};
-use crate::reader::Reader;
-use crate::scan::scan;
 use priz_base::{NoMem, Place};
 use std::alloc::Global;
+use token_forms::{ParseStop, Reader, Why, scan};
 use utopist_lexer::{LexFault, Token};
 use utopist_syntax::File;
 

@@ -1,14 +1,13 @@
 //! What a relation takes.
 ghost use Rattle.std.specs.Prelude.{◌≡◌, ◌<◌, ◌≤◌, length, OnOk};
-ghost use Rattle.utopist_parser.specs.steps.Answers.{ReadBy};
+ghost use Rattle.token_forms.specs.steps.Answers.{ReadBy};
 ghost use Rattle.utopist_parser.specs.steps.ReadingFile.{input_at, subtask_at, part_at, some_parts_at, begins_part, parts_at};
-ghost use Rattle.utopist_parser.specs.steps.Steps.{next, meets};
+ghost use Rattle.token_forms.specs.steps.Steps.{next, meets};
 
-use crate::parse_stop::ParseStop;
 use crate::paths::read_paths;
 use crate::production::{Production, separated};
-use crate::reader::Reader;
 use sqlite_items::Items;
+use token_forms::{ParseStop, Reader};
 use utopist_lexer::{Kind, Mark};
 use utopist_syntax::{Part, Path};
 

@@ -1,13 +1,12 @@
 //! Names and paths.
 ghost use Rattle.std.specs.Prelude.{◌≡◌, ◌<◌, length, OnOk};
-ghost use Rattle.utopist_parser.specs.steps.Answers.{ReadBy};
+ghost use Rattle.token_forms.specs.steps.Answers.{ReadBy};
 ghost use Rattle.utopist_parser.specs.steps.Lists.{names_at, path_at, paths_at};
-ghost use Rattle.utopist_parser.specs.steps.Single.{name_at};
+ghost use Rattle.token_forms.specs.steps.Single.{name_at};
 
-use crate::parse_stop::ParseStop;
 use crate::production::{Production, separated};
-use crate::reader::Reader;
 use sqlite_items::Items;
+use token_forms::{ParseStop, Reader};
 use utopist_lexer::Mark;
 use utopist_syntax::{Name, Path};
 

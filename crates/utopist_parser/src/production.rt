@@ -1,13 +1,12 @@
 //! Forms of the grammar, and lists of them with a separator.
 ghost use Rattle.std.specs.Prelude.{◌≡◌, ◌<◌, [], length, IfOk, OnOk};
-ghost use Rattle.utopist_parser.specs.steps.Answers.{ReadBy};
-ghost use Rattle.utopist_parser.specs.steps.Lists.{next_at, separated_at};
-ghost use Rattle.utopist_parser.specs.steps.Steps.{StepOf};
+ghost use Rattle.token_forms.specs.steps.Answers.{ReadBy};
+ghost use Rattle.token_forms.specs.steps.Lists.{next_at, separated_at};
+ghost use Rattle.token_forms.specs.steps.Steps.{StepOf};
 
-use crate::parse_stop::ParseStop;
-use crate::reader::Reader;
 use sqlite_items::Items;
 use std::alloc::{AllocError, Global};
+use token_forms::{ParseStop, Reader};
 use utopist_lexer::Mark;
 
 /// What the grammar has a rule for.

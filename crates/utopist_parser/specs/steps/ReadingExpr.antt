@@ -17,10 +17,12 @@ use Rattle.utopist_parser.specs.declared.breadth.Breadth.{Breadth}
 use Rattle.utopist_parser.specs.declared.breadth.Breadth.TheVariants as breadth
 use Rattle.utopist_parser.specs.declared.group.Group.{Group}
 use Rattle.utopist_parser.specs.declared.group.Group.TheVariants as group
-use Rattle.utopist_parser.specs.Symbols.{Symbol}
-use Rattle.utopist_parser.specs.steps.Steps.{Reading, ReadOf, TooDeep, StepOf, ◌>>=◌, on_ok, give, next, meets, choose_at, pick_at, deeper_at}
-use Rattle.utopist_parser.specs.steps.Single.{is_kind, is_word, is_mark, is_sub, fixed_at, word_at, mark_at, name_at, number_at, sub_at}
-use Rattle.utopist_parser.specs.steps.Lists.{separated_at, path_at}
+use Rattle.token_forms.specs.Symbols.{Symbol}
+use Rattle.token_forms.specs.declared.parse_stop.Why.TheVariants.{TooDeep}
+use Rattle.token_forms.specs.steps.Steps.{Reading, ReadOf, StepOf, ◌>>=◌, on_ok, give, next, meets, choose_at, pick_at, deeper_at}
+use Rattle.token_forms.specs.steps.Single.{is_kind, is_word, is_mark, is_sub, fixed_at, word_at, mark_at, name_at, number_at, sub_at}
+use Rattle.token_forms.specs.steps.Lists.{separated_at}
+use Rattle.utopist_parser.specs.steps.Lists.{path_at}
 
 -- a tree and its nesting
 abbrev pub Nested : Type 0

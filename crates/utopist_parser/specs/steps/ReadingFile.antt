@@ -17,10 +17,11 @@ use Rattle.utopist_syntax.specs.declared.compute.GivenPath.{GivenPath}
 use Rattle.utopist_syntax.specs.ExprTree.{ExprTree}
 use Rattle.utopist_syntax.specs.FileTree.{ItemTree, var, eq, rel, ConceptTree, FileTree}
 use Rattle.utopist_parser.specs.declared.breadth.Breadth.TheVariants as breadth
-use Rattle.utopist_parser.specs.Symbols.{Symbol}
-use Rattle.utopist_parser.specs.steps.Steps.{StepOf, ◌>>=◌, give, choose_at, repeat_at}
-use Rattle.utopist_parser.specs.steps.Single.{is_kind, is_word, is_mark, fixed_at, word_at, mark_at, name_at, number_at, divisor_at}
-use Rattle.utopist_parser.specs.steps.Lists.{separated_at, names_at, path_at, paths_at}
+use Rattle.token_forms.specs.Symbols.{Symbol}
+use Rattle.token_forms.specs.steps.Steps.{StepOf, ◌>>=◌, give, choose_at, repeat_at}
+use Rattle.token_forms.specs.steps.Single.{is_kind, is_word, is_mark, fixed_at, word_at, mark_at, name_at, number_at, divisor_at}
+use Rattle.token_forms.specs.steps.Lists.{separated_at}
+use Rattle.utopist_parser.specs.steps.Lists.{names_at, path_at, paths_at}
 use Rattle.utopist_parser.specs.steps.ReadingExpr.{chain_at, expr_at}
 
 -- ---- items

@@ -1,7 +1,7 @@
 use Rattle.std.proofs.Common.{map, arith}
 use Rattle.std.proofs.lemmas.Result.{err_from_is_err_and}
-use Rattle.utopist_parser.proofs.Loops.{ends, fails}
-use Rattle.utopist_parser.proofs.Starts.{none_seen, seen_on}
+use Rattle.token_forms.proofs.Loops.{ends, fails}
+use Rattle.token_forms.proofs.Starts.{none_seen, seen_on}
 use Rattle.utopist_parser.proofs.entry.repeated.Goals as goal
 
 pub entries-init : goal.entries-init

@@ -1,6 +1,6 @@
 use Rattle.std.proofs.Common.{◌≤◌, length, map}
-use Rattle.utopist_parser.specs.steps.Steps.{repeat_at}
-use Rattle.utopist_parser.proofs.Loops.{SoFar}
+use Rattle.token_forms.specs.steps.Steps.{repeat_at}
+use Rattle.token_forms.proofs.Loops.{SoFar}
 use Rattle.utopist_parser.proofs.entry.repeated.Given as goal
 
 abbrev pub invariant-entries : goal.invariant-entries

@@ -1,9 +1,5 @@
-use Rattle.utopist_parser.proofs.CaseLaws.{goes_on, begins}
 use Rattle.utopist_parser.proofs.SameForms.{files_are, files_begin}
 use Rattle.utopist_parser.proofs.laws.symbols_begin_what_goes_on.Goals as goal
-
-pub returns-clause-forms : goal.returns-clause-forms
-returns-clause-forms c = λ f ts. (goes_on f ts, λ x. begins f ts x.0 x.1)
 
 pub returns-clause-files : goal.returns-clause-files
 returns-clause-files c = files_are

@@ -1,9 +1,9 @@
 use Rattle.std.proofs.Common.{List, sym, subst, arith}
 use Rattle.std.proofs.lemmas.Result.{err_from_is_err_and}
-use Rattle.utopist_parser.specs.steps.Single.{is_mark}
-use Rattle.utopist_parser.specs.steps.Lists.{next_at}
-use Rattle.utopist_parser.proofs.Loops.{goes_on, ends, fails}
-use Rattle.utopist_parser.proofs.Starts.{Separated}
+use Rattle.token_forms.specs.steps.Single.{is_mark}
+use Rattle.token_forms.specs.steps.Lists.{next_at}
+use Rattle.token_forms.proofs.Loops.{goes_on, ends, fails}
+use Rattle.token_forms.proofs.Starts.{Separated}
 use Rattle.utopist_parser.proofs.production.separated.Goals as goal
 
 pub returns-in_err-read_next-clause-reads : goal.returns-in_err-read_next-clause-reads

@@ -1,5 +1,5 @@
 use Rattle.std.proofs.Common.{◌<◌, length}
-use Rattle.utopist_parser.proofs.Starts.{Separated}
+use Rattle.token_forms.proofs.Starts.{Separated}
 use Rattle.utopist_parser.proofs.production.separated.Given as goal
 
 abbrev pub invariant-forms : goal.invariant-forms

@@ -1,0 +1,14 @@
+pub mod CaseLaws
+pub mod Choice
+pub mod Loops
+pub mod Meeting
+pub mod Recast
+pub mod Repeat
+pub mod Rules
+pub mod SameKind
+pub mod Scanning
+pub mod Sequence
+pub mod Singles
+pub mod Starts
+pub mod StepLaws
+pub mod Tokens

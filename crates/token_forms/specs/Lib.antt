@@ -1,0 +1,4 @@
+pub mod Symbols
+pub mod Forms
+pub mod Lists
+pub mod steps
