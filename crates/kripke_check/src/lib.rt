@@ -3,10 +3,6 @@
 
 mod countermodel;
 mod laws;
-#[cfg(test)]
-mod tests;
-#[cfg(test)]
-mod tests_countermodel;
 mod worlds;
 
 pub use countermodel::check;

@@ -9,10 +9,6 @@ mod numbers;
 mod run_stop;
 mod runner;
 mod step;
-#[cfg(test)]
-mod tests;
-#[cfg(test)]
-mod tests_runner;
 mod worked;
 
 pub use block::Block;

@@ -7,8 +7,6 @@ mod names;
 mod problem;
 mod statement;
 mod subtask;
-#[cfg(test)]
-mod tests;
 mod worked;
 
 pub use given::Given;

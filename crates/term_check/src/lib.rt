@@ -5,7 +5,5 @@ mod checker;
 mod proof;
 mod scope;
 mod separation;
-#[cfg(test)]
-mod tests;
 
 pub use checker::TermChecker;

@@ -3,7 +3,7 @@ use Rattle.std.specs.Prelude.{codes}
 use Rattle.body_lang.specs.BodyTree.{BodyTree}
 use Rattle.body_lang.proofs.BodyTrees.{input_tree}
 use Rattle.statement_set.specs.Problem.{Task, var_count, IsEquationOver}
-use Rattle.statement_set.proofs.tests.equations_are_kept.Goals as goal
+use Rattle.worked_problems.proofs.tests.equations_are_kept.Goals as goal
 
 pub add_equation-requires : goal.add_equation-requires
 add_equation-requires g c =
