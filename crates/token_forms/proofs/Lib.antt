@@ -9,6 +9,7 @@ pub mod SameKind
 pub mod Scanning
 pub mod Sequence
 pub mod Singles
+pub mod Standing
 pub mod Starts
 pub mod StepLaws
 pub mod Tokens

@@ -1,11 +1,10 @@
 -- {part} read part by part, as a loop does.
 use Rattle.std.proofs.Common.{◌≡◌, ℕ, zero, suc, ◌≤◌, ◌<◌, Bool, true, false, List, [], ◌∷◌, ◌++◌, length, Ok, Err, refl, sym, ap, ◌∙◌, append_assoc, arith}
 use Rattle.std.proofs.lemmas.List.{append-nil}
-use Rattle.token_forms.specs.declared.parse_stop.ParseStop.{ParseStop}
 use Rattle.token_forms.specs.declared.parse_stop.ParseStop.TheVariants as stop
 use Rattle.token_forms.specs.Symbols.{Symbol}
 use Rattle.token_forms.specs.steps.Steps.{Reading, ReadOf, Miss, on_ok, next, meets, repeat_fuel}
-use Rattle.token_forms.specs.steps.Answers.{Fails}
+use Rattle.token_forms.specs.steps.Answers.{StoppedAt, Fails}
 
 -- what was read before, and what is still read
 abbrev pub with_front : {V : Type 0} → List V → Reading (List V) → Reading (List V)
@@ -22,9 +21,9 @@ with_front-nil (Ok p) = refl
 with_front-nil (Err e) = refl
 
 -- a reading that fails where another does
-pub fails_on : {V W : Type 0} (e : ParseStop) (r : Reading V) (s : Reading W) → ((x : Miss) → r ≡ Err x → s ≡ Err x) → Fails e r → Fails e s
-fails_on stop.NoMem r s f h = tt
-fails_on (stop.Wrong why left) r s f h = f _ h
+pub fails_on : {V W : Type 0} (e : StoppedAt) (r : Reading V) (s : Reading W) → ((x : Miss) → r ≡ Err x → s ≡ Err x) → Fails e r → Fails e s
+fails_on (stop.NoMem, new) r s f h = tt
+fails_on (stop.Wrong why, new) r s f h = f _ h
 
 module _ {V : Type 0} (begins : Symbol → Bool) (read : ReadOf V) where
   -- the parts so far, and those that still come, of which there is room for all
@@ -71,7 +70,7 @@ module _ {V : Type 0} (begins : Symbol → Bool) (read : ReadOf V) where
       sym so_far ∙ ap (with_front front) here
 
   -- a part fails, and the whole with it
-  pub fails : (e : ParseStop) (front : List V) (ts : List Symbol) (total : Reading (List V)) → true ≡ meets begins (next ts) → Fails e (read ts) → SoFar front ts total → Fails e total
+  pub fails : (e : StoppedAt) (front : List V) (ts : List Symbol) (total : Reading (List V)) → true ≡ meets begins (next ts) → Fails e (read ts) → SoFar front ts total → Fails e total
   fails e front ts total starts h so_far = fails_on e (read ts) total (λ x i. fails-at so_far.fuel x front ts total starts i so_far.enough so_far.gives) h
 
   -- no part yet
@@ -83,7 +82,7 @@ module _ {V : Type 0} (begins : Symbol → Bool) (read : ReadOf V) where
   first_part ts v rest starts e shorter = goes_on [] ts v rest (repeat_fuel begins read (length ts) ts) starts e shorter (at_first ts)
 
   -- the first part fails, and the whole with it
-  pub no_first_part : (e : ParseStop) (ts : List Symbol) → true ≡ meets begins (next ts) → Fails e (read ts) → Fails e (repeat_fuel begins read (length ts) ts)
+  pub no_first_part : (e : StoppedAt) (ts : List Symbol) → true ≡ meets begins (next ts) → Fails e (read ts) → Fails e (repeat_fuel begins read (length ts) ts)
   no_first_part e ts starts h = fails e [] ts (repeat_fuel begins read (length ts) ts) starts h (at_first ts)
 
   -- no part at all

@@ -2,12 +2,11 @@
 use Rattle.std.proofs.Common.{◌≡◌, ◌<◌, Bool, true, List, [], ◌∷◌, ◌++◌, length, map, Ok, refl, sym, ap, subst, ◌∙◌, arith}
 use Rattle.std.proofs.lemmas.List.{map-append}
 use Rattle.utopist_lexer.specs.declared.mark.Mark.{Mark}
-use Rattle.token_forms.specs.declared.parse_stop.ParseStop.{ParseStop}
 use Rattle.token_forms.specs.Symbols.{Symbol}
 use Rattle.token_forms.specs.steps.Steps.{Reading, ReadOf, StepOf, next, meets, repeat_fuel}
 use Rattle.token_forms.specs.steps.Single.{is_mark}
 use Rattle.token_forms.specs.steps.Lists.{next_at, separated_at}
-use Rattle.token_forms.specs.steps.Answers.{Fails}
+use Rattle.token_forms.specs.steps.Answers.{StoppedAt, Fails}
 use Rattle.token_forms.proofs.Loops.{SoFar, fails_on, with_front-nil, goes_on}
 
 module _ {V : Type 0} (separator : Mark) (f : StepOf V) where
@@ -20,7 +19,7 @@ module _ {V : Type 0} (separator : Mark) (f : StepOf V) where
   separated_starts ts v rest e = record { fuel = length rest; enough = omega arith; gives = rw e refl }
 
   -- no first part
-  pub separated_fails : (e : ParseStop) (ts : List Symbol) → Fails e (f 63 ts) → Fails e (separated_at separator f 63 ts)
+  pub separated_fails : (e : StoppedAt) (ts : List Symbol) → Fails e (f 63 ts) → Fails e (separated_at separator f 63 ts)
   separated_fails e ts h = fails_on e (f 63 ts) (separated_at separator f 63 ts) (λ x i. rw i refl) h
 
 module _ {X V : Type 0} (view : X → V) (begins : Symbol → Bool) (read : ReadOf V) where

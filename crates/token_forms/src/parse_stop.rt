@@ -17,8 +17,8 @@ pub enum Why {
 #[derive(Clone, Copy)]
 pub enum ParseStop {
     NoMem,
-    /// The first wrong token, by how many are left at it.
-    Wrong(Why, usize),
+    /// The token that the reader stands at is the first wrong one.
+    Wrong(Why),
 }
 
 impl From<AllocError> for ParseStop {

@@ -5,13 +5,12 @@ use Rattle.utopist_syntax.specs.declared.expr.Expr.{Expr}
 use Rattle.utopist_syntax.specs.ExprTree.{ExprTrees, none, more}
 use Rattle.utopist_syntax.specs.View.{tree_of, trees_of}
 use Rattle.utopist_parser.specs.declared.breadth.Breadth.{Breadth}
-use Rattle.token_forms.specs.declared.parse_stop.ParseStop.{ParseStop}
 use Rattle.token_forms.specs.Symbols.{Symbol}
 use Rattle.token_forms.specs.steps.Steps.{Reading, on_ok, next, meets}
 use Rattle.token_forms.specs.steps.Single.{is_mark}
 use Rattle.token_forms.specs.steps.Lists.{next_at, separated_at}
 use Rattle.utopist_parser.specs.steps.ReadingExpr.{Nested, settled, most, trees_in, expr_at}
-use Rattle.token_forms.specs.steps.Answers.{Fails}
+use Rattle.token_forms.specs.steps.Answers.{StoppedAt, Fails}
 use Rattle.token_forms.proofs.Loops.{fails_on, goes_on, ends, fails}
 use Rattle.token_forms.proofs.Starts.{Separated, separated_starts, separated_fails}
 
@@ -52,15 +51,15 @@ module _ (b : Breadth) (room : ℕ) (ts : List Symbol) where
   }
 
   -- where the list fails, so do the arguments
-  all_fail : (e : ParseStop) → Fails e (separated_at marks.Comma (settled (expr_at b room)) 63 ts) → Fails e all_arguments
+  all_fail : (e : StoppedAt) → Fails e (separated_at marks.Comma (settled (expr_at b room)) 63 ts) → Fails e all_arguments
   all_fail e h = fails_on e (separated_at marks.Comma (settled (expr_at b room)) 63 ts) all_arguments (λ x i. rw i refl) h
 
   -- the first argument fails
-  pub no_argument : (e : ParseStop) → Fails e (expr_at b room ts) → Fails e all_arguments
+  pub no_argument : (e : StoppedAt) → Fails e (expr_at b room ts) → Fails e all_arguments
   no_argument e h = all_fail e (separated_fails marks.Comma (settled (expr_at b room)) e ts h)
 
   -- a further argument fails
-  pub argument_fails : (e : ParseStop) (args : List Expr) (nest : ℕ) (rest : List Symbol) → true ≡ meets (is_mark marks.Comma) (next rest) → Fails e (next_at marks.Comma (settled (expr_at b room)) 63 rest) → Arguments args nest rest → Fails e all_arguments
+  pub argument_fails : (e : StoppedAt) (args : List Expr) (nest : ℕ) (rest : List Symbol) → true ≡ meets (is_mark marks.Comma) (next rest) → Fails e (next_at marks.Comma (settled (expr_at b room)) 63 rest) → Arguments args nest rest → Fails e all_arguments
   argument_fails e args nest rest more_comes h so_far = all_fail e (fails (is_mark marks.Comma) (next_at marks.Comma (settled (expr_at b room)) 63) e so_far.front rest _ more_comes h so_far.gives)
 
   -- one more argument, as it was pushed

@@ -3,18 +3,17 @@ use Rattle.std.proofs.Common.{◌≡◌, ℕ, zero, suc, true, false, List, leng
 use Rattle.utopist_lexer.specs.declared.mark.Mark.TheVariants as marks
 use Rattle.utopist_lexer.specs.declared.token.Kind.TheVariants as kinds
 use Rattle.utopist_parser.specs.declared.breadth.Breadth.{Breadth}
-use Rattle.token_forms.specs.declared.parse_stop.ParseStop.{ParseStop}
 use Rattle.token_forms.specs.Symbols.{Symbol}
 use Rattle.token_forms.specs.declared.parse_stop.Why.TheVariants.{TooDeep}
 use Rattle.token_forms.specs.steps.Steps.{Reading, Miss, next, meets, deeper}
 use Rattle.token_forms.specs.steps.Single.{is_mark, is_kind}
 use Rattle.utopist_parser.specs.steps.ReadingExpr.{settled, begins_call, begins_loop, begins_choice, negated_step, round_step, call_step, loop_step, choice_step, literal_step, variable_step, levels_within, factor_at, chain_at, expr_at}
-use Rattle.token_forms.specs.steps.Answers.{Fails}
+use Rattle.token_forms.specs.steps.Answers.{StoppedAt, Fails}
 use Rattle.token_forms.proofs.Loops.{fails_on}
 use Rattle.utopist_parser.proofs.Rooms.{negated_same, round_same, call_same, loop_same, choice_same, literal_same, variable_same}
 
 -- where there is no room for a part, nothing one level deeper is read
-pub no_room : {V W : Type 0} (e : ParseStop) (room : ℕ) (ts : List Symbol) (v : V × List Symbol) (read : Reading W) → Fails e (deeper room ts (Ok v)) → Fails e (deeper room ts read)
+pub no_room : {V W : Type 0} (e : StoppedAt) (room : ℕ) (ts : List Symbol) (v : V × List Symbol) (read : Reading W) → Fails e (deeper room ts (Ok v)) → Fails e (deeper room ts read)
 no_room {V} {W} e room ts v read h = fails_on e (deeper room ts (Ok v)) (deeper room ts read) (go room) h where
   go : (n : ℕ) (x : Miss) → deeper n ts (Ok v) ≡ Err x → deeper n ts read ≡ Err x
   go zero x i = let same : (TooDeep, length ts) ≡ x = cc in ap (λ (y : Miss). Err y) same

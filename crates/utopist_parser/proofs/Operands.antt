@@ -6,12 +6,11 @@ use Rattle.utopist_syntax.specs.ExprTree.{ExprTree, op}
 use Rattle.utopist_parser.specs.declared.breadth.Breadth.{Breadth}
 use Rattle.utopist_parser.specs.declared.group.Group.{Group}
 use Rattle.utopist_parser.specs.declared.group.Group.TheVariants as group
-use Rattle.token_forms.specs.declared.parse_stop.ParseStop.{ParseStop}
 use Rattle.token_forms.specs.Symbols.{Symbol}
 use Rattle.token_forms.specs.declared.parse_stop.Why.TheVariants.{TooDeep}
 use Rattle.token_forms.specs.steps.Steps.{Reading, ReadOf, Miss, next}
 use Rattle.utopist_parser.specs.steps.ReadingExpr.{Nested, op_over, more_at, Levels, levels_within, factor_at, term_at, chain_at, operator_of, group_within, operand_at}
-use Rattle.token_forms.specs.steps.Answers.{Fails}
+use Rattle.token_forms.specs.steps.Answers.{StoppedAt, Fails}
 use Rattle.token_forms.proofs.Loops.{fails_on}
 
 -- the test whether a number is small enough
@@ -56,7 +55,7 @@ module _ (find : Option Symbol → Option Op) (operand : ReadOf Nested) (room : 
   fails-at (suc fuel) v rest o x k i h f = rw (i, at_most _ _ h, f) refl
 
   -- an operand fails, and the whole with it
-  pub fails : (e : ParseStop) (v : Nested) (rest : List Symbol) (o : Op) (lower : ReadOf Nested) (behind : List Symbol) → operand ≡ lower → behind ≡ drop 1 rest → Some o ≡ find (next rest) → v.1 ≤ room → Fails e (lower behind) → Operands v rest → Fails e total
+  pub fails : (e : StoppedAt) (v : Nested) (rest : List Symbol) (o : Op) (lower : ReadOf Nested) (behind : List Symbol) → operand ≡ lower → behind ≡ drop 1 rest → Some o ≡ find (next rest) → v.1 ≤ room → Fails e (lower behind) → Operands v rest → Fails e total
   fails e v rest o lower behind same is i h f s = fails_on e (lower behind) total (λ x g. s.gives ∙ fails-at s.fuel v rest o x s.enough (sym i) h ((λ j. same j (sym is j)) ∙ g)) f
 
   -- one more operator and operand
@@ -92,7 +91,7 @@ first_operand group.Chain b room ts v rest e h = record { fuel = room; enough = 
 first_operand group.Term b room ts v rest e h = record { fuel = room; enough = omega (arith, h); gives = rw e refl }
 
 -- the first operand fails, and the group with it
-pub no_operand : (g : Group) (b : Breadth) (room : ℕ) (e : ParseStop) (ts : List Symbol) → Fails e (operand_at g b room ts) → Fails e (group_within g b room ts)
+pub no_operand : (g : Group) (b : Breadth) (room : ℕ) (e : StoppedAt) (ts : List Symbol) → Fails e (operand_at g b room ts) → Fails e (group_within g b room ts)
 unfolding factor_at term_at chain_at
 no_operand group.Chain b room e ts h = fails_on e (term_at b room ts) (chain_at b room ts) (λ x i. rw i refl) h
 no_operand group.Term b room e ts h = fails_on e (factor_at b room ts) (term_at b room ts) (λ x i. rw i refl) h

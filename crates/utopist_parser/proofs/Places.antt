@@ -1,61 +1,40 @@
 -- The token at which some symbols are left.
-use Rattle.std.proofs.Common.{◌≡◌, ℕ, ◌+◌, ◌-◌, false, List, [], ◌∷◌, ◌++◌, length, map, take, drop, refl, sym, ap, ◌∙◌, arith, inl, inr, length-append}
+use Rattle.std.proofs.Common.{◌≡◌, ℕ, ◌+◌, ◌-◌, false, List, [], ◌∷◌, ◌++◌, length, map, drop, refl, sym, ap, ◌∙◌, arith, inl, inr, length-append}
 use Rattle.std.specs.Prelude.{◌⊎◌}
-use Rattle.std.proofs.lemmas.List.{drop_at, take_at, length-map, map-append}
-use Rattle.utopist_lexer.specs.declared.token.Token.{Token}
+use Rattle.std.proofs.lemmas.List.{drop_at, length-map}
 use Rattle.utopist_lexer.specs.Gap.{past_gap}
 use Rattle.utopist_lexer.specs.Places.{Stands}
 use Rattle.utopist_lexer.specs.Lexical.{Tok, IsToken}
 use Rattle.utopist_lexer.specs.Tokens.{ReadsTo}
-use Rattle.utopist_lexer.specs.Scanning.{tok}
-use Rattle.token_forms.specs.Symbols.{Symbol, symbol_of, symbol, symbols}
+use Rattle.token_forms.specs.Symbols.{Symbol, symbol_of}
 
 -- a list split where another one is
-pub record SplitAt (items : List Token) (front : List Symbol) (c : Symbol) : Type 0 where
-  pub before : List Token
-  pub item : Token
-  pub after : List Token
+pub record SplitAt (items : List Tok) (front : List Symbol) (c : Symbol) : Type 0 where
+  pub before : List Tok
+  pub item : Tok
+  pub after : List Tok
   pub split : items ≡ before ++ item ∷ after
-  pub front_is : symbols before ≡ front
-  pub item_is : symbol item ≡ c
+  pub front_is : front ≡ map symbol_of before
+  pub item_is : c ≡ symbol_of item
 
-pub split_at : (items : List Token) (front : List Symbol) (c : Symbol) (cs : List Symbol) → symbols items ≡ front ++ c ∷ cs → SplitAt items front c
+pub split_at : (items : List Tok) (front : List Symbol) (c : Symbol) (cs : List Symbol) → map symbol_of items ≡ front ++ c ∷ cs → SplitAt items front c
 split_at [] [] c cs e = absurd cc
 split_at [] (f ∷ front) c cs e = absurd cc
 split_at (t ∷ items) [] c cs e = record { before = []; item = t; after = items; split = refl; front_is = refl; item_is = cc }
 split_at (t ∷ items) (f ∷ front) c cs e =
-    let head : symbol t ≡ f = cc in
-    let tail : symbols items ≡ front ++ c ∷ cs = cc in
+    let head : f ≡ symbol_of t = cc in
+    let tail : map symbol_of items ≡ front ++ c ∷ cs = cc in
     let s = split_at items front c cs tail in
-    record { before = t ∷ s.before; item = s.item; after = s.after; split = ap (λ (l : List Token). t ∷ l) s.split; front_is = λ i. head i ∷ s.front_is i; item_is = s.item_is }
+    record { before = t ∷ s.before; item = s.item; after = s.after; split = ap (λ (l : List Tok). t ∷ l) s.split; front_is = λ i. head i ∷ s.front_is i; item_is = s.item_is }
 
 -- where so many are left, the token stands
-pub drop_to : (items : List Token) (front : List Symbol) (c : Symbol) (s : SplitAt items front c) (left : ℕ) (cs : List Symbol) → symbols items ≡ front ++ c ∷ cs → length (c ∷ cs) ≡ left → drop (length items - left) items ≡ s.item ∷ s.after
+pub drop_to : (items : List Tok) (front : List Symbol) (c : Symbol) (s : SplitAt items front c) (left : ℕ) (cs : List Symbol) → map symbol_of items ≡ front ++ c ∷ cs → length (c ∷ cs) ≡ left → drop (length items - left) items ≡ s.item ∷ s.after
 drop_to items front c s left cs e size =
     let long : length items ≡ length s.before + length (s.item ∷ s.after) = ap length s.split ∙ length-append s.before (s.item ∷ s.after) in
-    let all : length items ≡ length front + length (c ∷ cs) = sym (length-map items symbol) ∙ ap length e ∙ length-append front (c ∷ cs) in
-    let fronts : length s.before ≡ length front = sym (length-map s.before symbol) ∙ ap length s.front_is in
+    let all : length items ≡ length front + length (c ∷ cs) = sym (length-map items symbol_of) ∙ ap length e ∙ length-append front (c ∷ cs) in
+    let fronts : length front ≡ length s.before = ap length s.front_is ∙ length-map s.before symbol_of in
     let at : length s.before ≡ length items - left = omega arith in
     ap (drop (length items - left)) s.split ∙ drop_at s.before (s.item ∷ s.after) (length items - left) at
-
--- ---- symbols of tokens
-
-same_fronts : {X : Type 0} (xs us ys vs : List X) → length xs ≡ length us → xs ++ ys ≡ us ++ vs → (xs ≡ us) × (ys ≡ vs)
-same_fronts xs us ys vs size e =
-    (sym (take_at xs ys (length xs) refl) ∙ ap (take (length xs)) e ∙ take_at us vs (length xs) (sym size), sym (drop_at xs ys (length xs) refl) ∙ ap (drop (length xs)) e ∙ drop_at us vs (length xs) (sym size))
-
-same_size : (items : List Token) → length (symbols items) ≡ length (map symbol_of (map tok items))
-same_size items = length-map items symbol ∙ sym (length-map (map tok items) symbol_of ∙ length-map items tok)
-
-first_same : (t : Token) (ts : List Token) → symbols (t ∷ ts) ≡ map symbol_of (map tok (t ∷ ts)) → symbol t ≡ symbol_of (tok t)
-first_same t ts e = cc
-
--- each token's symbol is that of what it is seen as
-pub symbols_inside : (before : List Token) (t : Token) (after : List Token) → symbols (before ++ t ∷ after) ≡ map symbol_of (map tok (before ++ t ∷ after)) → (symbols before ≡ map symbol_of (map tok before)) × (symbol t ≡ symbol_of (tok t))
-symbols_inside before t after e =
-    let right : map symbol_of (map tok (before ++ t ∷ after)) ≡ map symbol_of (map tok before) ++ map symbol_of (map tok (t ∷ after)) = ap (map symbol_of) (map-append tok before (t ∷ after)) ∙ map-append symbol_of (map tok before) (map tok (t ∷ after)) in
-    let both = same_fronts (symbols before) (map symbol_of (map tok before)) (symbols (t ∷ after)) (map symbol_of (map tok (t ∷ after))) (same_size before) (sym (map-append symbol before (t ∷ after)) ∙ e ∙ right) in
-    (both.0, first_same t after both.1)
 
 -- ---- a token inside a reading
 

@@ -1,6 +1,5 @@
 //! The kind of a variable, and the bindings of a component.
-ghost use Rattle.std.specs.Prelude.{◌≡◌, ◌<◌, ◌≤◌, length, OnOk};
-ghost use Rattle.token_forms.specs.steps.Answers.{ReadBy};
+ghost use Rattle.token_forms.specs.steps.Answers.{ReadBy, GoesOn, StaysOrGoesOn};
 ghost use Rattle.utopist_parser.specs.steps.ReadingFile.{bind_at, binds_at, numeric_at, component_at, kind_at};
 
 use crate::production::{Production, separated};
@@ -10,11 +9,9 @@ use utopist_lexer::{Mark, Word};
 use utopist_syntax::{Bind, Path, VarKind};
 
 #[tactic(auto, unfolding(crate::specs::steps::ReadingFile::kind_at))]
-pub fn read_kind<'a>(
-    reader: &mut Reader<'_, 'a>,
-) -> Result<(VarKind<'a>, Items<Bind<'a>>), ParseStop>
+pub fn read_kind<'a>(reader: &mut Reader<'a>) -> Result<(VarKind<'a>, Items<Bind<'a>>), ParseStop>
     ensures reads { ReadBy kind_at reader.old result reader.new }
-    ensures shorter { OnOk result (length reader.new < length reader.old) }
+    ensures goes_on { GoesOn reader.old result reader.new }
 {
     if reader.next_is_word(Word::Numeric) {
         read_numeric(reader)
@@ -24,22 +21,18 @@ pub fn read_kind<'a>(
 }
 
 #[tactic(auto, unfolding(crate::specs::steps::ReadingFile::numeric_at))]
-fn read_numeric<'a>(
-    reader: &mut Reader<'_, 'a>,
-) -> Result<(VarKind<'a>, Items<Bind<'a>>), ParseStop>
+fn read_numeric<'a>(reader: &mut Reader<'a>) -> Result<(VarKind<'a>, Items<Bind<'a>>), ParseStop>
     ensures reads { ReadBy numeric_at reader.old result reader.new }
-    ensures shorter { OnOk result (length reader.new < length reader.old) }
+    ensures goes_on { GoesOn reader.old result reader.new }
 {
     reader.word(Word::Numeric)?;
     Ok((VarKind::Numeric, Items::new(reader.alloc)))
 }
 
 #[tactic(auto, unfolding(crate::specs::steps::ReadingFile::component_at))]
-fn read_component<'a>(
-    reader: &mut Reader<'_, 'a>,
-) -> Result<(VarKind<'a>, Items<Bind<'a>>), ParseStop>
+fn read_component<'a>(reader: &mut Reader<'a>) -> Result<(VarKind<'a>, Items<Bind<'a>>), ParseStop>
     ensures reads { ReadBy component_at reader.old result reader.new }
-    ensures shorter { OnOk result (length reader.new < length reader.old) }
+    ensures goes_on { GoesOn reader.old result reader.new }
 {
     let name = reader.name()?;
     let binds = read_binds(reader)?;
@@ -47,9 +40,9 @@ fn read_component<'a>(
 }
 
 #[tactic(auto, unfolding(crate::specs::steps::ReadingFile::binds_at, crate::specs::steps::ReadingFile::some_binds_at))]
-fn read_binds<'a>(reader: &mut Reader<'_, 'a>) -> Result<Items<Bind<'a>>, ParseStop>
+fn read_binds<'a>(reader: &mut Reader<'a>) -> Result<Items<Bind<'a>>, ParseStop>
     ensures reads { ReadBy binds_at reader.old result reader.new }
-    ensures shorter { OnOk result (length reader.new ≤ length reader.old) }
+    ensures stays { StaysOrGoesOn reader.old result reader.new }
 {
     if !reader.next_is_mark(Mark::OpenRound) {
         return Ok(Items::new(reader.alloc));
@@ -64,7 +57,7 @@ impl<'a> Production<'a> for Bind<'a> {
     ghost step = { bind_at };
 
     #[tactic(auto, unfolding(crate::specs::steps::ReadingFile::bind_at))]
-    fn read(reader: &mut Reader<'_, 'a>) -> Result<Bind<'a>, ParseStop> {
+    fn read(reader: &mut Reader<'a>) -> Result<Bind<'a>, ParseStop> {
         let left = Path::read(reader)?;
         reader.mark(Mark::Equal)?;
         let right = Path::read(reader)?;

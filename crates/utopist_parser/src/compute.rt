@@ -21,12 +21,12 @@ impl<'a> Entry<'a> for Compute<'a> {
 
     ghost step = { compute_at };
 
-    fn is_next(reader: &Reader<'_, 'a>) -> bool {
+    fn is_next(reader: &Reader<'a>) -> bool {
         reader.next_is_word(Word::Compute)
     }
 
     #[tactic(auto, unfolding(crate::specs::steps::ReadingFile::compute_at))]
-    fn read(reader: &mut Reader<'_, 'a>) -> Result<Compute<'a>, ParseStop> {
+    fn read(reader: &mut Reader<'a>) -> Result<Compute<'a>, ParseStop> {
         reader.word(Word::Compute)?;
         let name = reader.name()?;
         reader.mark(Mark::Colon)?;

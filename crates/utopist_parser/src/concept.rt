@@ -1,8 +1,8 @@
 //! Concepts.
-ghost use Rattle.std.specs.Prelude.{◌≡◌, ◌<◌, ◌≤◌, length, map, OnOk};
+ghost use Rattle.std.specs.Prelude.{map};
 ghost use Rattle.utopist_lexer.specs.declared.word.Word.TheVariants.{Concept as concept_word};
 ghost use Rattle.utopist_syntax.specs.FileTree.{ConceptTree, item_tree, concept_tree};
-ghost use Rattle.token_forms.specs.steps.Answers.{ReadBy, ReadThrough};
+ghost use Rattle.token_forms.specs.steps.Answers.{ReadBy, ReadThrough, GoesOn, StaysOrGoesOn};
 ghost use Rattle.utopist_parser.specs.steps.ReadingFile.{items_at, parents_at, concept_at};
 ghost use Rattle.token_forms.specs.steps.Single.{is_word};
 
@@ -22,12 +22,12 @@ impl<'a> Entry<'a> for Concept<'a> {
 
     ghost step = { concept_at };
 
-    fn is_next(reader: &Reader<'_, 'a>) -> bool {
+    fn is_next(reader: &Reader<'a>) -> bool {
         reader.next_is_word(Word::Concept)
     }
 
     #[tactic(auto, unfolding(crate::specs::steps::ReadingFile::concept_at))]
-    fn read(reader: &mut Reader<'_, 'a>) -> Result<Concept<'a>, ParseStop> {
+    fn read(reader: &mut Reader<'a>) -> Result<Concept<'a>, ParseStop> {
         reader.word(Word::Concept)?;
         let name = reader.name()?;
         let parents = read_parents(reader)?;
@@ -44,9 +44,9 @@ impl<'a> Entry<'a> for Concept<'a> {
 }
 
 #[tactic(auto, unfolding(crate::specs::steps::ReadingFile::parents_at, crate::specs::steps::ReadingFile::some_parents_at))]
-fn read_parents<'a>(reader: &mut Reader<'_, 'a>) -> Result<Items<Name<'a>>, ParseStop>
+fn read_parents<'a>(reader: &mut Reader<'a>) -> Result<Items<Name<'a>>, ParseStop>
     ensures reads { ReadBy parents_at reader.old result reader.new }
-    ensures shorter { OnOk result (length reader.new ≤ length reader.old) }
+    ensures stays { StaysOrGoesOn reader.old result reader.new }
 {
     if !reader.next_is_word(Word::Is) {
         return Ok(Items::new(reader.alloc));
@@ -56,9 +56,9 @@ fn read_parents<'a>(reader: &mut Reader<'_, 'a>) -> Result<Items<Name<'a>>, Pars
 }
 
 #[tactic(auto, unfolding(crate::specs::steps::ReadingFile::items_at))]
-fn read_items<'a>(reader: &mut Reader<'_, 'a>) -> Result<Items<Item<'a>>, ParseStop>
+fn read_items<'a>(reader: &mut Reader<'a>) -> Result<Items<Item<'a>>, ParseStop>
     ensures reads { ReadThrough (map item_tree) items_at reader.old result reader.new }
-    ensures shorter { OnOk result (length reader.new < length reader.old) }
+    ensures goes_on { GoesOn reader.old result reader.new }
 {
     reader.mark(Mark::OpenRound)?;
     repeated(reader)

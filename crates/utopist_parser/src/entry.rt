@@ -1,6 +1,6 @@
 //! What stands one after another with nothing between, as items and concepts do.
-ghost use Rattle.std.specs.Prelude.{◌≡◌, ◌<◌, ◌≤◌, Bool, length, map, OnOk};
-ghost use Rattle.token_forms.specs.steps.Answers.{ReadThrough};
+ghost use Rattle.std.specs.Prelude.{◌≡◌, Bool, map};
+ghost use Rattle.token_forms.specs.steps.Answers.{ReadThrough, GoesOn, StaysOrGoesOn};
 ghost use Rattle.token_forms.specs.steps.Steps.{StepOf, next, meets, repeat_at};
 ghost use Rattle.token_forms.specs.Symbols.{Symbol};
 
@@ -17,18 +17,18 @@ pub trait Entry<'a>: Drop {
 
     ghost step: { StepOf Tree };
 
-    fn is_next(reader: &Reader<'_, 'a>) -> bool
-        ensures { result ≡ meets begins (next reader.now) };
+    fn is_next(reader: &Reader<'a>) -> bool
+        ensures { result ≡ meets begins (next reader.now.symbols) };
 
-    fn read(reader: &mut Reader<'_, 'a>) -> Result<Self, ParseStop>
+    fn read(reader: &mut Reader<'a>) -> Result<Self, ParseStop>
         ensures reads { ReadThrough tree step reader.old result reader.new }
-        ensures shorter { OnOk result (length reader.new < length reader.old) };
+        ensures goes_on { GoesOn reader.old result reader.new };
 }
 
 /// All that follow one another, as long as one more is announced.
-pub fn repeated<'a, T: Entry<'a>>(reader: &mut Reader<'_, 'a>) -> Result<Items<T>, ParseStop>
+pub fn repeated<'a, T: Entry<'a>>(reader: &mut Reader<'a>) -> Result<Items<T>, ParseStop>
     ensures reads { ReadThrough (map T.tree) (repeat_at T.begins T.step) reader.old result reader.new }
-    ensures shorter { OnOk result (length reader.new ≤ length reader.old) }
+    ensures stays { StaysOrGoesOn reader.old result reader.new }
 {
     let mut found = Items::new(reader.alloc);
     'entries: while T::is_next(reader) {

@@ -1,6 +1,6 @@
 //! Expressions.
-ghost use Rattle.std.specs.Prelude.{◌≡◌, ◌<◌, ◌≤◌, ◌+◌, ◌-◌, suc, length, Ok, IfOk, OnOk};
-ghost use Rattle.token_forms.specs.steps.Answers.{Gives, ReadThrough};
+ghost use Rattle.std.specs.Prelude.{◌≡◌, ◌≤◌, ◌+◌, ◌-◌, suc, Ok, IfOk};
+ghost use Rattle.token_forms.specs.steps.Answers.{Gives, ReadThrough, GoesOn};
 ghost use Rattle.utopist_parser.specs.steps.ReadingExpr.{as_nested, settled, begins_call, begins_loop, begins_choice, factor_at, expr_at, group_within, operand_at};
 ghost use Rattle.token_forms.specs.steps.Steps.{next, meets, deeper};
 
@@ -12,15 +12,15 @@ use crate::group::Group;
 use crate::nested::NestedExpr;
 use crate::nodes::operation_of;
 use crate::operators::operator_of;
-use token_forms::{ParseStop, Reader};
+use token_forms::{ParseStop, Reader, Why};
 use utopist_lexer::{Kind, Mark, Word};
 
 #[cycle(reading)]
-pub fn read_expr<'a>(reader: &mut Reader<'_, 'a>, breadth: Breadth, room: u32) -> NestedExpr<'a>
+pub fn read_expr<'a>(reader: &mut Reader<'a>, breadth: Breadth, room: u32) -> NestedExpr<'a>
     requires { room ≤ MOST_ROOM }
     ensures reads { ReadThrough as_nested (settled (expr_at breadth room)) reader.old result reader.new }
     ensures within { IfOk result (λ x. (1 ≤ x.1) × (x.1 ≤ room + 1)) }
-    ensures shorter { OnOk result (length reader.new < length reader.old) }
+    ensures goes_on { GoesOn reader.old result reader.new }
 {
     if begins_choice(reader, breadth) {
         let below = one_below(reader, room)?;
@@ -33,7 +33,7 @@ pub fn read_expr<'a>(reader: &mut Reader<'_, 'a>, breadth: Breadth, room: u32) -
 /// A chain or a term.
 #[cycle(reading)]
 pub fn read_group<'a>(
-    reader: &mut Reader<'_, 'a>,
+    reader: &mut Reader<'a>,
     group: Group,
     breadth: Breadth,
     room: u32,
@@ -41,12 +41,12 @@ pub fn read_group<'a>(
     requires { room ≤ MOST_ROOM }
     ensures reads { ReadThrough as_nested (settled (group_within group breadth room)) reader.old result reader.new }
     ensures within { IfOk result (λ x. (1 ≤ x.1) × (x.1 ≤ room + 1)) }
-    ensures shorter { OnOk result (length reader.new < length reader.old) }
+    ensures goes_on { GoesOn reader.old result reader.new }
 {
     let (mut tree, mut nest) = read_operand(reader, group, breadth, room)?;
     'parts: while let Some(op) = operator_of(reader, group) {
         if nest > room {
-            return Err(reader.too_deep());
+            return Err(ParseStop::Wrong(Why::TooDeep));
         }
         reader.advance();
         let (part, deep) = read_operand(reader, group, breadth, room - 1)?;
@@ -58,7 +58,7 @@ pub fn read_group<'a>(
 
 #[cycle(reading)]
 fn read_operand<'a>(
-    reader: &mut Reader<'_, 'a>,
+    reader: &mut Reader<'a>,
     group: Group,
     breadth: Breadth,
     room: u32,
@@ -66,7 +66,7 @@ fn read_operand<'a>(
     requires { room ≤ MOST_ROOM }
     ensures reads { ReadThrough as_nested (settled (operand_at group breadth room)) reader.old result reader.new }
     ensures within { IfOk result (λ x. (1 ≤ x.1) × (x.1 ≤ room + 1)) }
-    ensures shorter { OnOk result (length reader.new < length reader.old) }
+    ensures goes_on { GoesOn reader.old result reader.new }
 {
     match group {
         Group::Chain => read_group(reader, Group::Term, breadth, room),
@@ -75,11 +75,11 @@ fn read_operand<'a>(
 }
 
 #[cycle(reading)]
-pub fn read_factor<'a>(reader: &mut Reader<'_, 'a>, breadth: Breadth, room: u32) -> NestedExpr<'a>
+pub fn read_factor<'a>(reader: &mut Reader<'a>, breadth: Breadth, room: u32) -> NestedExpr<'a>
     requires { room ≤ MOST_ROOM }
     ensures reads { ReadThrough as_nested (settled (factor_at breadth room)) reader.old result reader.new }
     ensures within { IfOk result (λ x. (1 ≤ x.1) × (x.1 ≤ room + 1)) }
-    ensures shorter { OnOk result (length reader.new < length reader.old) }
+    ensures goes_on { GoesOn reader.old result reader.new }
 {
     if reader.next_is_mark(Mark::Minus) {
         let below = one_below(reader, room)?;
@@ -102,24 +102,24 @@ pub fn read_factor<'a>(reader: &mut Reader<'_, 'a>, breadth: Breadth, room: u32)
 
 // The room for what is one level below, where there is room for it.
 fn one_below(reader: &Reader, room: u32) -> Result<u32, ParseStop>
-    ensures gives { Gives (λ x. (x, reader.now)) result (deeper room reader.now (Ok (room - 1, reader.now))) }
+    ensures gives { Gives (λ x. x) result reader.now.symbols (deeper room reader.now.symbols (Ok (room - 1, reader.now.symbols))) }
     ensures below { IfOk result (λ x. room ≡ suc x) }
 {
     if room == 0 {
-        Err(reader.too_deep())
+        Err(ParseStop::Wrong(Why::TooDeep))
     } else {
         Ok(room - 1)
     }
 }
 
 fn begins_call(reader: &Reader, breadth: Breadth) -> bool
-    ensures { result ≡ meets (begins_call breadth) (next reader.now) }
+    ensures { result ≡ meets (begins_call breadth) (next reader.now.symbols) }
 {
     breadth == Breadth::All && reader.next_is_sub()
 }
 
 fn begins_loop(reader: &Reader, breadth: Breadth) -> bool
-    ensures { result ≡ meets (begins_loop breadth) (next reader.now) }
+    ensures { result ≡ meets (begins_loop breadth) (next reader.now.symbols) }
 {
     breadth == Breadth::All
         && (reader.next_is_word(Word::Sum)
@@ -128,7 +128,7 @@ fn begins_loop(reader: &Reader, breadth: Breadth) -> bool
 }
 
 fn begins_choice(reader: &Reader, breadth: Breadth) -> bool
-    ensures { result ≡ meets (begins_choice breadth) (next reader.now) }
+    ensures { result ≡ meets (begins_choice breadth) (next reader.now.symbols) }
 {
     breadth == Breadth::All && reader.next_is_word(Word::If)
 }

@@ -10,8 +10,9 @@ use utopist_lexer::Kind;
 use utopist_syntax::File;
 
 #[tactic(auto, using(token_forms::proofs::Starts::seen_plainly), unfolding(crate::specs::steps::ReadingFile::file_at, crate::specs::steps::ReadingFile::concepts_at, crate::specs::steps::ReadingFile::computes_at))]
-pub fn read_file<'a>(reader: &mut Reader<'_, 'a>) -> Result<File<'a>, ParseStop>
-    ensures { ReadThrough file_tree file_at reader.old result reader.new }
+pub fn read_file<'a>(reader: &mut Reader<'a>) -> Result<File<'a>, ParseStop>
+    ensures reads { ReadThrough file_tree file_at reader.old result reader.new }
+    ensures text { reader.new.text ≡ reader.old.text }
 {
     let concepts = repeated(reader)?;
     let computes = repeated(reader)?;

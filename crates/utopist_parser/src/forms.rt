@@ -1,9 +1,9 @@
 //! The forms of expressions. The room is that of their parts.
-ghost use Rattle.std.specs.Prelude.{◌≡◌, ◌<◌, ◌≤◌, ◌+◌, ℕ, length, Ok, IfOk, OnOk};
+ghost use Rattle.std.specs.Prelude.{◌≡◌, ◌<◌, ◌≤◌, ◌+◌, ℕ, Ok, IfOk};
 ghost use Rattle.utopist_lexer.specs.declared.mark.Mark.TheVariants.{Comma};
 ghost use Rattle.utopist_syntax.specs.ExprTree.{ExprTrees};
 ghost use Rattle.utopist_syntax.specs.View.{trees_of};
-ghost use Rattle.token_forms.specs.steps.Answers.{Gives, ReadThrough};
+ghost use Rattle.token_forms.specs.steps.Answers.{Gives, ReadThrough, GoesOn};
 ghost use Rattle.token_forms.specs.steps.Lists.{separated_at};
 ghost use Rattle.utopist_parser.specs.steps.ReadingExpr.{as_nested, settled, behind_step, negated_step, round_step, call_step, loop_step, choice_step, literal_step, variable_step, trees_in, most, factor_at, chain_at, expr_at};
 ghost use Rattle.token_forms.specs.steps.Steps.{on_ok};
@@ -23,11 +23,11 @@ use utopist_syntax::{Expr, Path};
 const COMMA: Kind = Kind::Mark(Mark::Comma);
 
 #[cycle(reading)]
-pub fn read_negated<'a>(reader: &mut Reader<'_, 'a>, breadth: Breadth, room: u32) -> NestedExpr<'a>
+pub fn read_negated<'a>(reader: &mut Reader<'a>, breadth: Breadth, room: u32) -> NestedExpr<'a>
     requires { room < MOST_ROOM }
     ensures reads { ReadThrough as_nested (negated_step (settled (factor_at breadth room))) reader.old result reader.new }
     ensures within { IfOk result (λ x. (1 ≤ x.1) × (x.1 ≤ room + 2)) }
-    ensures shorter { OnOk result (length reader.new < length reader.old) }
+    ensures goes_on { GoesOn reader.old result reader.new }
 {
     reader.mark(Mark::Minus)?;
     let (part, nest) = read_factor(reader, breadth, room)?;
@@ -36,11 +36,11 @@ pub fn read_negated<'a>(reader: &mut Reader<'_, 'a>, breadth: Breadth, room: u32
 }
 
 #[cycle(reading)]
-pub fn read_round<'a>(reader: &mut Reader<'_, 'a>, breadth: Breadth, room: u32) -> NestedExpr<'a>
+pub fn read_round<'a>(reader: &mut Reader<'a>, breadth: Breadth, room: u32) -> NestedExpr<'a>
     requires { room < MOST_ROOM }
     ensures reads { ReadThrough as_nested (round_step (settled (expr_at breadth room))) reader.old result reader.new }
     ensures within { IfOk result (λ x. (1 ≤ x.1) × (x.1 ≤ room + 2)) }
-    ensures shorter { OnOk result (length reader.new < length reader.old) }
+    ensures goes_on { GoesOn reader.old result reader.new }
 {
     reader.mark(Mark::OpenRound)?;
     let (tree, nest) = read_expr(reader, breadth, room)?;
@@ -49,11 +49,11 @@ pub fn read_round<'a>(reader: &mut Reader<'_, 'a>, breadth: Breadth, room: u32) 
 }
 
 #[cycle(reading)]
-pub fn read_call<'a>(reader: &mut Reader<'_, 'a>, breadth: Breadth, room: u32) -> NestedExpr<'a>
+pub fn read_call<'a>(reader: &mut Reader<'a>, breadth: Breadth, room: u32) -> NestedExpr<'a>
     requires { room < MOST_ROOM }
     ensures reads { ReadThrough as_nested (call_step (settled (expr_at breadth room))) reader.old result reader.new }
     ensures within { IfOk result (λ x. (1 ≤ x.1) × (x.1 ≤ room + 2)) }
-    ensures shorter { OnOk result (length reader.new < length reader.old) }
+    ensures goes_on { GoesOn reader.old result reader.new }
 {
     let ((k, out), place) = reader.sub()?;
     reader.mark(Mark::OpenRound)?;
@@ -65,14 +65,14 @@ pub fn read_call<'a>(reader: &mut Reader<'_, 'a>, breadth: Breadth, room: u32) -
 // The arguments of a call, and the most of their nestings.
 #[cycle(reading)]
 fn read_args<'a>(
-    reader: &mut Reader<'_, 'a>,
+    reader: &mut Reader<'a>,
     breadth: Breadth,
     room: u32,
 ) -> Result<(Items<Expr<'a>>, u32), ParseStop>
     requires { room < MOST_ROOM }
-    ensures reads { Gives {V = ExprTrees × ℕ} (λ x. ((trees_of x.0, x.1), reader.new)) result (on_ok (separated_at Comma (settled (expr_at breadth room)) 63 reader.old) (λ p. Ok ((trees_in p.0, most p.0), p.1))) }
+    ensures reads { Gives {V = ExprTrees × ℕ} (λ x. (trees_of x.0, x.1)) result reader.new.symbols (on_ok (separated_at Comma (settled (expr_at breadth room)) 63 reader.old.symbols) (λ p. Ok ((trees_in p.0, most p.0), p.1))) }
     ensures within { IfOk result (λ x. x.1 ≤ room + 1) }
-    ensures shorter { OnOk result (length reader.new < length reader.old) }
+    ensures goes_on { GoesOn reader.old result reader.new }
 {
     let (first, mut nest) = read_expr(reader, breadth, room)?;
     let mut found = Items::new(reader.alloc);
@@ -88,7 +88,7 @@ fn read_args<'a>(
 // An expression behind a token of this kind.
 #[cycle(reading)]
 fn read_behind<'a>(
-    reader: &mut Reader<'_, 'a>,
+    reader: &mut Reader<'a>,
     kind: Kind,
     breadth: Breadth,
     room: u32,
@@ -96,18 +96,18 @@ fn read_behind<'a>(
     requires { room < MOST_ROOM }
     ensures reads { ReadThrough as_nested (behind_step kind (settled (expr_at breadth room))) reader.old result reader.new }
     ensures within { IfOk result (λ x. (1 ≤ x.1) × (x.1 ≤ room + 1)) }
-    ensures shorter { OnOk result (length reader.new < length reader.old) }
+    ensures goes_on { GoesOn reader.old result reader.new }
 {
     reader.fixed(kind)?;
     read_expr(reader, breadth, room)
 }
 
 #[cycle(reading)]
-pub fn read_loop<'a>(reader: &mut Reader<'_, 'a>, breadth: Breadth, room: u32) -> NestedExpr<'a>
+pub fn read_loop<'a>(reader: &mut Reader<'a>, breadth: Breadth, room: u32) -> NestedExpr<'a>
     requires { room < MOST_ROOM }
     ensures reads { ReadThrough as_nested (loop_step (settled (expr_at breadth room))) reader.old result reader.new }
     ensures within { IfOk result (λ x. (1 ≤ x.1) × (x.1 ≤ room + 2)) }
-    ensures shorter { OnOk result (length reader.new < length reader.old) }
+    ensures goes_on { GoesOn reader.old result reader.new }
 {
     let kind = read_loop_kind(reader)?;
     reader.mark(Mark::OpenRound)?;
@@ -121,11 +121,11 @@ pub fn read_loop<'a>(reader: &mut Reader<'_, 'a>, breadth: Breadth, room: u32) -
 }
 
 #[cycle(reading)]
-pub fn read_choice<'a>(reader: &mut Reader<'_, 'a>, breadth: Breadth, room: u32) -> NestedExpr<'a>
+pub fn read_choice<'a>(reader: &mut Reader<'a>, breadth: Breadth, room: u32) -> NestedExpr<'a>
     requires { room < MOST_ROOM }
     ensures reads { ReadThrough as_nested (choice_step (settled (chain_at breadth room)) (settled (expr_at breadth room))) reader.old result reader.new }
     ensures within { IfOk result (λ x. (1 ≤ x.1) × (x.1 ≤ room + 2)) }
-    ensures shorter { OnOk result (length reader.new < length reader.old) }
+    ensures goes_on { GoesOn reader.old result reader.new }
 {
     reader.word(Word::If)?;
     let (left, a) = read_group(reader, Group::Chain, breadth, room)?;
@@ -137,19 +137,19 @@ pub fn read_choice<'a>(reader: &mut Reader<'_, 'a>, breadth: Breadth, room: u32)
     Ok((tree, a.max(b).max(c.max(d)) + 1))
 }
 
-pub fn read_variable<'a>(reader: &mut Reader<'_, 'a>) -> NestedExpr<'a>
+pub fn read_variable<'a>(reader: &mut Reader<'a>) -> NestedExpr<'a>
     ensures reads { ReadThrough as_nested variable_step reader.old result reader.new }
     ensures within { IfOk result (λ x. x.1 ≡ 1) }
-    ensures shorter { OnOk result (length reader.new < length reader.old) }
+    ensures goes_on { GoesOn reader.old result reader.new }
 {
     let path = Path::read(reader)?;
     Ok((variable_of(path), 1))
 }
 
-pub fn read_literal<'a>(reader: &mut Reader<'_, 'a>) -> NestedExpr<'a>
+pub fn read_literal<'a>(reader: &mut Reader<'a>) -> NestedExpr<'a>
     ensures reads { ReadThrough as_nested literal_step reader.old result reader.new }
     ensures within { IfOk result (λ x. x.1 ≡ 1) }
-    ensures shorter { OnOk result (length reader.new < length reader.old) }
+    ensures goes_on { GoesOn reader.old result reader.new }
 {
     let n = reader.number()?;
     Ok((number_of(n), 1))

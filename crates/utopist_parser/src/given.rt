@@ -1,8 +1,8 @@
 //! What is given, and the numbers of it.
-ghost use Rattle.std.specs.Prelude.{◌≡◌, ◌<◌, ◌≤◌, pos, ◌≤ℤ◌, ◌<ℤ◌, unsigned_abs, length, IfOk, OnOk};
+ghost use Rattle.std.specs.Prelude.{◌≡◌, pos, ◌≤ℤ◌, ◌<ℤ◌, unsigned_abs, IfOk};
 ghost use Rattle.priz_frac.specs.Lowest.{low};
 ghost use Rattle.priz_frac.specs.Sign.{signed_number, signed_ratio};
-ghost use Rattle.token_forms.specs.steps.Answers.{ReadBy};
+ghost use Rattle.token_forms.specs.steps.Answers.{ReadBy, StaysOrGoesOn};
 ghost use Rattle.utopist_parser.specs.steps.ReadingFile.{negative_at, below_at, given_value_at, given_at, givens_at};
 
 use crate::production::{Production, separated};
@@ -13,9 +13,9 @@ use utopist_lexer::{Mark, Word};
 use utopist_syntax::{GivenPath, Path};
 
 #[tactic(auto, unfolding(crate::specs::steps::ReadingFile::givens_at, crate::specs::steps::ReadingFile::some_givens_at))]
-pub fn read_givens<'a>(reader: &mut Reader<'_, 'a>) -> Result<Items<GivenPath<'a>>, ParseStop>
+pub fn read_givens<'a>(reader: &mut Reader<'a>) -> Result<Items<GivenPath<'a>>, ParseStop>
     ensures reads { ReadBy givens_at reader.old result reader.new }
-    ensures shorter { OnOk result (length reader.new ≤ length reader.old) }
+    ensures stays { StaysOrGoesOn reader.old result reader.new }
 {
     if !reader.next_is_word(Word::Given) {
         return Ok(Items::new(reader.alloc));
@@ -30,7 +30,7 @@ impl<'a> Production<'a> for GivenPath<'a> {
     ghost step = { given_at };
 
     #[tactic(auto, unfolding(crate::specs::steps::ReadingFile::given_at))]
-    fn read(reader: &mut Reader<'_, 'a>) -> Result<GivenPath<'a>, ParseStop> {
+    fn read(reader: &mut Reader<'a>) -> Result<GivenPath<'a>, ParseStop> {
         let path = Path::read(reader)?;
         let value = read_value(reader)?;
         Ok(GivenPath { path, value })
@@ -40,7 +40,7 @@ impl<'a> Production<'a> for GivenPath<'a> {
 #[tactic(auto, unfolding(crate::specs::steps::ReadingFile::given_value_at, crate::specs::steps::ReadingFile::some_value_at))]
 fn read_value(reader: &mut Reader) -> Result<Option<Frac>, ParseStop>
     ensures reads { ReadBy given_value_at reader.old result reader.new }
-    ensures shorter { OnOk result (length reader.new ≤ length reader.old) }
+    ensures stays { StaysOrGoesOn reader.old result reader.new }
 {
     if !reader.next_is_mark(Mark::Equal) {
         return Ok(None);
@@ -56,7 +56,7 @@ fn read_value(reader: &mut Reader) -> Result<Option<Frac>, ParseStop>
 #[tactic(auto, unfolding(crate::specs::steps::ReadingFile::negative_at, crate::specs::steps::ReadingFile::minus_at))]
 fn read_sign(reader: &mut Reader) -> Result<bool, ParseStop>
     ensures reads { ReadBy negative_at reader.old result reader.new }
-    ensures shorter { OnOk result (length reader.new ≤ length reader.old) }
+    ensures stays { StaysOrGoesOn reader.old result reader.new }
 {
     if reader.next_is_mark(Mark::Minus) {
         reader.mark(Mark::Minus)?;
@@ -71,7 +71,7 @@ fn read_sign(reader: &mut Reader) -> Result<bool, ParseStop>
 fn read_below(reader: &mut Reader) -> Result<i64, ParseStop>
     ensures reads { ReadBy below_at reader.old result reader.new }
     ensures positive { IfOk result (λ d. pos 0 <ℤ d) }
-    ensures shorter { OnOk result (length reader.new ≤ length reader.old) }
+    ensures stays { StaysOrGoesOn reader.old result reader.new }
 {
     if !reader.next_is_mark(Mark::Slash) {
         return Ok(1);

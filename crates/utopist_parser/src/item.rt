@@ -1,7 +1,6 @@
 //! Items.
-ghost use Rattle.std.specs.Prelude.{◌≡◌, ◌<◌, ◌≤◌, length, OnOk};
 ghost use Rattle.utopist_syntax.specs.FileTree.{ItemTree, body_expr_tree, item_tree};
-ghost use Rattle.token_forms.specs.steps.Answers.{ReadThrough};
+ghost use Rattle.token_forms.specs.steps.Answers.{ReadThrough, GoesOn, StaysOrGoesOn};
 ghost use Rattle.utopist_parser.specs.steps.ReadingFile.{var_at, eq_at, body_at, rel_at, item_at, begins_item};
 
 use crate::binds::read_kind;
@@ -25,14 +24,14 @@ impl<'a> Entry<'a> for Item<'a> {
 
     ghost step = { item_at };
 
-    fn is_next(reader: &Reader<'_, 'a>) -> bool {
+    fn is_next(reader: &Reader<'a>) -> bool {
         reader.next_is_word(Word::Var)
             || reader.next_is_word(Word::Eq)
             || reader.next_is_word(Word::Rel)
     }
 
     #[tactic(auto, unfolding(crate::specs::steps::ReadingFile::item_at))]
-    fn read(reader: &mut Reader<'_, 'a>) -> Result<Item<'a>, ParseStop> {
+    fn read(reader: &mut Reader<'a>) -> Result<Item<'a>, ParseStop> {
         if reader.next_is_word(Word::Var) {
             read_var(reader)
         } else if reader.next_is_word(Word::Eq) {
@@ -44,9 +43,9 @@ impl<'a> Entry<'a> for Item<'a> {
 }
 
 #[tactic(auto, unfolding(crate::specs::steps::ReadingFile::var_at))]
-fn read_var<'a>(reader: &mut Reader<'_, 'a>) -> Result<Item<'a>, ParseStop>
+fn read_var<'a>(reader: &mut Reader<'a>) -> Result<Item<'a>, ParseStop>
     ensures reads { ReadThrough item_tree var_at reader.old result reader.new }
-    ensures shorter { OnOk result (length reader.new < length reader.old) }
+    ensures goes_on { GoesOn reader.old result reader.new }
 {
     reader.word(Word::Var)?;
     let names = read_names(reader)?;
@@ -57,9 +56,9 @@ fn read_var<'a>(reader: &mut Reader<'_, 'a>) -> Result<Item<'a>, ParseStop>
 }
 
 #[tactic(auto, unfolding(crate::specs::steps::ReadingFile::eq_at))]
-fn read_eq<'a>(reader: &mut Reader<'_, 'a>) -> Result<Item<'a>, ParseStop>
+fn read_eq<'a>(reader: &mut Reader<'a>) -> Result<Item<'a>, ParseStop>
     ensures reads { ReadThrough item_tree eq_at reader.old result reader.new }
-    ensures shorter { OnOk result (length reader.new < length reader.old) }
+    ensures goes_on { GoesOn reader.old result reader.new }
 {
     reader.word(Word::Eq)?;
     let (left, _) = read_group(reader, Group::Chain, Breadth::Arithmetic, MOST_ROOM)?;
@@ -70,9 +69,9 @@ fn read_eq<'a>(reader: &mut Reader<'_, 'a>) -> Result<Item<'a>, ParseStop>
 }
 
 #[tactic(auto, unfolding(crate::specs::steps::ReadingFile::rel_at))]
-fn read_rel<'a>(reader: &mut Reader<'_, 'a>) -> Result<Item<'a>, ParseStop>
+fn read_rel<'a>(reader: &mut Reader<'a>) -> Result<Item<'a>, ParseStop>
     ensures reads { ReadThrough item_tree rel_at reader.old result reader.new }
-    ensures shorter { OnOk result (length reader.new < length reader.old) }
+    ensures goes_on { GoesOn reader.old result reader.new }
 {
     reader.word(Word::Rel)?;
     let name = reader.name()?;
@@ -91,9 +90,9 @@ fn read_rel<'a>(reader: &mut Reader<'_, 'a>) -> Result<Item<'a>, ParseStop>
 }
 
 #[tactic(auto, unfolding(crate::specs::steps::ReadingFile::body_at, crate::specs::steps::ReadingFile::some_body_at))]
-fn read_body<'a>(reader: &mut Reader<'_, 'a>) -> Result<Option<Expr<'a>>, ParseStop>
+fn read_body<'a>(reader: &mut Reader<'a>) -> Result<Option<Expr<'a>>, ParseStop>
     ensures reads { ReadThrough body_expr_tree body_at reader.old result reader.new }
-    ensures shorter { OnOk result (length reader.new ≤ length reader.old) }
+    ensures stays { StaysOrGoesOn reader.old result reader.new }
 {
     if !reader.next_is_mark(Mark::OpenCurly) {
         return Ok(None);

@@ -1,17 +1,17 @@
 //! From a text to its tree.
-ghost use Rattle.std.specs.Prelude.{◌≡◌, ◌≤◌, length, IfOk, IsSome};
+ghost use Rattle.std.specs.Prelude.{◌≡◌, ◌≤◌, length, IfOk};
 ghost use Rattle.priz_base.specs.Reading.{max_input};
 ghost use Rattle.utopist_syntax.specs.Shape.{HasShape};
 ghost use Rattle.utopist_syntax.specs.FileTree.{file_tree};
-ghost use Rattle.utopist_parser.specs.steps.Answers.{PlaceOf, fault_by};
+ghost use Rattle.utopist_parser.specs.steps.Answers.{fault_by};
 ghost use Rattle.utopist_parser.specs.Forms.{ParseOf};
 ghost use Rattle.utopist_parser.specs.Slices.{AllSlices};
 
 use crate::file::read_file;
-use priz_base::{NoMem, Place};
+use priz_base::Place;
 use std::alloc::Global;
-use token_forms::{ParseStop, Reader, Why, scan};
-use utopist_lexer::{LexFault, Token};
+use token_forms::{ParseStop, Reader, Why};
+use utopist_lexer::LexFault;
 use utopist_syntax::File;
 
 /// Why a text has no tree.
@@ -33,16 +33,13 @@ pub fn parse<'a>(alloc: Global, text: &'a str) -> Result<File<'a>, ParseFault>
     ensures shape { IfOk result (λ f. HasShape (file_tree f)) }
     ensures slices { IfOk result (λ f. AllSlices text.entry.now (file_tree f)) }
 {
-    let (tokens, fault) = match scan(alloc, text) {
-        Ok(found) => found,
-        Err(NoMem) => return Err(ParseFault::NoMem),
-    };
-    let mut reader = Reader::new(alloc, &tokens);
+    let mut reader = Reader::new(alloc, text);
     match read_file(&mut reader) {
         Ok(file) => Ok(file),
-        Err(ParseStop::Wrong(why, left)) => match place_at(&tokens, left, fault) {
-            Ok(place) => Err(fault_by(why, place)),
-            Err(fault) => Err(ParseFault::Lex(fault)),
+        Err(ParseStop::Wrong(why)) => match reader.place() {
+            Some(Ok(place)) => Err(fault_by(why, place)),
+            Some(Err(fault)) => Err(ParseFault::Lex(fault)),
+            None => unreachable!(),
         },
         Err(ParseStop::NoMem) => Err(ParseFault::NoMem),
     }
@@ -55,18 +52,5 @@ fn fault_by(why: Why, place: Place) -> ParseFault
     match why {
         Why::Unexpected => ParseFault::Expected(place),
         Why::TooDeep => ParseFault::TooDeep(place),
-    }
-}
-
-// The place of the first wrong token, by how many are left at it; where none is, what follows the tokens is wrong.
-fn place_at(tokens: &[Token], left: usize, fault: Option<LexFault>) -> Result<Place, LexFault>
-    requires within { left ≤ length tokens.now }
-    requires some { left ≡ 0 → IsSome fault }
-    ensures { PlaceOf tokens.now left fault result }
-{
-    match (&tokens[tokens.len() - left..], fault) {
-        ([first, ..], _) => Ok(first.place()),
-        ([], Some(fault)) => Err(fault),
-        ([], None) => unreachable!(),
     }
 }

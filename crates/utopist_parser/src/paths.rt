@@ -1,6 +1,5 @@
 //! Names and paths.
-ghost use Rattle.std.specs.Prelude.{◌≡◌, ◌<◌, length, OnOk};
-ghost use Rattle.token_forms.specs.steps.Answers.{ReadBy};
+ghost use Rattle.token_forms.specs.steps.Answers.{ReadBy, GoesOn};
 ghost use Rattle.utopist_parser.specs.steps.Lists.{names_at, path_at, paths_at};
 ghost use Rattle.token_forms.specs.steps.Single.{name_at};
 
@@ -13,7 +12,7 @@ use utopist_syntax::{Name, Path};
 impl<'a> Production<'a> for Name<'a> {
     ghost step = { name_at };
 
-    fn read(reader: &mut Reader<'_, 'a>) -> Result<Name<'a>, ParseStop> {
+    fn read(reader: &mut Reader<'a>) -> Result<Name<'a>, ParseStop> {
         reader.name()
     }
 }
@@ -22,24 +21,24 @@ impl<'a> Production<'a> for Path<'a> {
     ghost step = { path_at };
 
     #[tactic(auto, unfolding(crate::specs::steps::Lists::path_at))]
-    fn read(reader: &mut Reader<'_, 'a>) -> Result<Path<'a>, ParseStop> {
+    fn read(reader: &mut Reader<'a>) -> Result<Path<'a>, ParseStop> {
         let parts = separated(reader, Mark::Dot)?;
         Ok(Path { parts })
     }
 }
 
 #[tactic(auto, unfolding(crate::specs::steps::Lists::names_at))]
-pub fn read_names<'a>(reader: &mut Reader<'_, 'a>) -> Result<Items<Name<'a>>, ParseStop>
+pub fn read_names<'a>(reader: &mut Reader<'a>) -> Result<Items<Name<'a>>, ParseStop>
     ensures reads { ReadBy names_at reader.old result reader.new }
-    ensures shorter { OnOk result (length reader.new < length reader.old) }
+    ensures goes_on { GoesOn reader.old result reader.new }
 {
     separated(reader, Mark::Comma)
 }
 
 #[tactic(auto, unfolding(crate::specs::steps::Lists::paths_at))]
-pub fn read_paths<'a>(reader: &mut Reader<'_, 'a>) -> Result<Items<Path<'a>>, ParseStop>
+pub fn read_paths<'a>(reader: &mut Reader<'a>) -> Result<Items<Path<'a>>, ParseStop>
     ensures reads { ReadBy paths_at reader.old result reader.new }
-    ensures shorter { OnOk result (length reader.new < length reader.old) }
+    ensures goes_on { GoesOn reader.old result reader.new }
 {
     separated(reader, Mark::Comma)
 }

@@ -1,6 +1,6 @@
 //! Forms of the grammar, and lists of them with a separator.
-ghost use Rattle.std.specs.Prelude.{◌≡◌, ◌<◌, [], length, IfOk, OnOk};
-ghost use Rattle.token_forms.specs.steps.Answers.{ReadBy};
+ghost use Rattle.std.specs.Prelude.{◌≡◌, [], IfOk};
+ghost use Rattle.token_forms.specs.steps.Answers.{ReadBy, GoesOn};
 ghost use Rattle.token_forms.specs.steps.Lists.{next_at, separated_at};
 ghost use Rattle.token_forms.specs.steps.Steps.{StepOf};
 
@@ -13,18 +13,18 @@ use utopist_lexer::Mark;
 pub trait Production<'a>: Drop {
     ghost step: { StepOf Self };
 
-    fn read(reader: &mut Reader<'_, 'a>) -> Result<Self, ParseStop>
+    fn read(reader: &mut Reader<'a>) -> Result<Self, ParseStop>
         ensures reads { ReadBy step reader.old result reader.new }
-        ensures shorter { OnOk result (length reader.new < length reader.old) };
+        ensures goes_on { GoesOn reader.old result reader.new };
 }
 
 /// Forms with a separator between them, of which there is one at least.
 pub fn separated<'a, T: Production<'a>>(
-    reader: &mut Reader<'_, 'a>,
+    reader: &mut Reader<'a>,
     separator: Mark,
 ) -> Result<Items<T>, ParseStop>
     ensures reads { ReadBy (separated_at separator T.step) reader.old result reader.new }
-    ensures shorter { OnOk result (length reader.new < length reader.old) }
+    ensures goes_on { GoesOn reader.old result reader.new }
 {
     let mut found = room_for_one(reader.alloc)?;
     found.push(T::read(reader)?)?;
@@ -42,11 +42,11 @@ fn room_for_one<T: Drop>(alloc: Global) -> Result<Items<T>, AllocError>
 }
 
 fn read_next<'a, T: Production<'a>>(
-    reader: &mut Reader<'_, 'a>,
+    reader: &mut Reader<'a>,
     separator: Mark,
 ) -> Result<T, ParseStop>
     ensures reads { ReadBy (next_at separator T.step) reader.old result reader.new }
-    ensures shorter { OnOk result (length reader.new < length reader.old) }
+    ensures goes_on { GoesOn reader.old result reader.new }
 {
     reader.mark(separator)?;
     T::read(reader)

@@ -1,4 +1,4 @@
-use Rattle.std.proofs.Common.{◌≤◌, ◌<◌, ◌+◌, ◌*◌, length}
+use Rattle.std.proofs.Common.{◌≡◌, ◌≤◌, ◌<◌, ◌+◌, ◌*◌, length}
 use Rattle.utopist_syntax.specs.View.{tree_of}
 use Rattle.utopist_parser.proofs.Operands.{SoManyOperands, rank}
 use Rattle.utopist_parser.proofs.Arguments.{Arguments}
@@ -39,21 +39,23 @@ decreases-forms::read_choice l = l.room * 16 + 8
 
 abbrev pub invariant-expr::read_group-parts : goal.invariant-expr::read_group-parts
 invariant-expr::read_group-parts l = record {
-  gives : SoManyOperands l.group l.breadth l.room l.fn.reader (tree_of l.tree, l.nest) l.reader;
+  gives : SoManyOperands l.group l.breadth l.room l.fn.reader.symbols (tree_of l.tree, l.nest) l.reader.symbols;
   some : 1 ≤ l.nest;
   within : l.nest ≤ l.room + 1;
-  shorter : length l.reader < length l.fn.reader;
+  shorter : length l.reader.symbols < length l.fn.reader.symbols;
+  text : l.reader.text ≡ l.fn.reader.text;
 }
 
 abbrev pub decreases-expr::read_group-parts : goal.decreases-expr::read_group-parts
-decreases-expr::read_group-parts l = length l.reader
+decreases-expr::read_group-parts l = length l.reader.symbols
 
 abbrev pub invariant-forms::read_args-parts : goal.invariant-forms::read_args-parts
 invariant-forms::read_args-parts l = record {
-  gives : Arguments l.breadth l.room l.fn.reader l.found l.nest l.reader;
+  gives : Arguments l.breadth l.room l.fn.reader.symbols l.found l.nest l.reader.symbols;
   within : l.nest ≤ l.room + 1;
-  shorter : length l.reader < length l.fn.reader;
+  shorter : length l.reader.symbols < length l.fn.reader.symbols;
+  text : l.reader.text ≡ l.fn.reader.text;
 }
 
 abbrev pub decreases-forms::read_args-parts : goal.decreases-forms::read_args-parts
-decreases-forms::read_args-parts l = length l.reader
+decreases-forms::read_args-parts l = length l.reader.symbols
