@@ -14,7 +14,8 @@ use Rattle.concept_unfold.specs.Paths.{first_name, input_in, inputs_of, input_na
 use Rattle.std.proofs.lemmas.List.Elements.{Contains-append_left, Contains-append_cases, Contains-push}
 use Rattle.priz_base.proofs.Members.{contains_here, contains_there, contains_none, contains_cases}
 use Rattle.concept_unfold.specs.steps.InputPlaces.{Places, ArePlaces}
-use Rattle.concept_unfold.proofs.Places.{false_of, first_is, first_is_not, place_stable}
+use Rattle.concept_rules.proofs.Lookup.{false_of, first_is, first_is_not}
+use Rattle.concept_unfold.proofs.Places.{place_stable}
 
 -- a name that is none of the names stands behind all of them
 pub missing : (name : List ℕ) (names : List (List ℕ)) → (Contains names name → ⊥) → position_or_len (bytes_eq name) names ≡ length names

@@ -1,16 +1,12 @@
-pub mod Passing
-pub mod OneFault
-pub mod Names
-pub mod Relations
 pub mod Places
-pub mod Outlines
+pub mod FirstPlaces
+pub mod PlainItems
+pub mod PlainFiles
+pub mod PlainBodies
 pub mod Room
 pub mod Progress
-pub mod Whole
-pub mod Follows
+pub mod Following
+pub mod KeptLimits
 pub mod Once
-pub mod Stages
-mod Among
-mod FirstPlaces
-mod Faults
-mod GoodBodies
+pub mod Asked
+pub mod Whole

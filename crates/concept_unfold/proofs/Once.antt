@@ -1,19 +1,28 @@
 -- What is given, each variable once.
-use Rattle.std.proofs.Common.{◌≡◌, ◌↔◌, ℕ, ◌+◌, ◌<◌, List, [], ◌∷◌, ◌++◌, length, get_or, take, map, refl, sym, ap, ◌∙◌, subst, ⊎_elim}
+use Rattle.std.proofs.Common.{◌≡◌, ◌↔◌, ℕ, ◌+◌, ◌<◌, not, List, [], ◌∷◌, ◌++◌, length, get_or, take, drop, map, Err, refl, sym, ap, ◌∙◌, subst, ⊎_elim}
 use Rattle.std.specs.Prelude.{Contains}
 use Rattle.std.specs.List.{position_or_len}
 use Rattle.std.specs.Str.{bytes_eq}
 use Rattle.std.proofs.lemmas.List.{map-append}
 use Rattle.std.proofs.lemmas.List.Elements.{All-head, All-tail, All-take, All-map, All-get_or}
 use Rattle.priz_base.specs.Sets.{Adds}
-use Rattle.priz_base.proofs.More.{map_more, same_members}
+use Rattle.priz_base.proofs.More.{drop_at, map_more, same_members}
 use Rattle.priz_base.proofs.Members.{contains_here, contains_there, contains_cases, contains_none}
 use Rattle.utopist_syntax.specs.declared.path.Path.{Path}
 use Rattle.utopist_syntax.specs.declared.compute.GivenPath.{GivenPath}
 use Rattle.statement_set.specs.declared.given.Given.{Given}
 use Rattle.statement_set.specs.Problem.{Task}
-use Rattle.concept_unfold.specs.Paths.{first_name, given_paths, given_names, IsOneOf}
-use Rattle.concept_unfold.specs.Declarations.{texts}
+use Rattle.name_sets.specs.Paths.{texts}
+use Rattle.concept_rules.specs.Paths.{given_paths}
+use Rattle.concept_unfold.specs.Paths.{first_name, given_names, IsOneOf}
+use Rattle.body_lang.specs.Verdicts.{Verdict, and_then, fault_unless}
+use Rattle.concept_rules.specs.declared.fault.Rule.TheVariants as rule
+use Rattle.concept_rules.specs.declared.fault.ModelFault.{ModelFault}
+use Rattle.concept_rules.specs.Declarations.{is_among}
+use Rattle.concept_rules.specs.PathRules.{broken_at}
+use Rattle.concept_rules.proofs.Lookup.{false_of}
+use Rattle.concept_rules.proofs.Among.{among, listed}
+use Rattle.concept_unfold.specs.UnfoldingRules.{once_fault}
 use Rattle.concept_unfold.specs.Unfolded.{AreKnown, var_number, given_of}
 use Rattle.statement_set.proofs.Lists.{all_of_map}
 use Rattle.utopist_syntax.specs.Named.{Named}
@@ -90,3 +99,26 @@ nothing_seen seen old n none empty = (
   λ c. absurd (contains_none n (subst (λ (xs : List ℕ). Contains xs n) none c)),
   λ c. absurd (contains_none n (subst (λ (gs : List Given). Contains (map (λ (g : Given). g.var) gs) n) empty c)),
 )
+
+-- the names of what is given are looked at one behind the other
+module _ (gs : List GivenPath) (i : ℕ) (g : GivenPath) (lt : i < length gs) (is : g ≡ get_or gs i g) where
+  abbrev before : List (List ℕ)
+  before = texts (given_names (take i gs))
+
+  abbrev rest : List (List ℕ) → Verdict ModelFault
+  rest names = once_fault names (given_names (drop (i + 1) gs))
+
+  next_given : once_fault before (given_names (drop i gs)) ≡ and_then (fault_unless (not (is_among (first_name g.path).text before)) (broken_at (first_name g.path) rule.DuplicateInput)) (rest (before ++ (first_name g.path).text ∷ []))
+  next_given = ap (λ (hs : List GivenPath). once_fault before (given_names hs)) (drop_at gs i g lt is)
+
+  pub given_twice : Contains before (first_name g.path).text → once_fault before (given_names (drop i gs)) ≡ Err (broken_at (first_name g.path) rule.DuplicateInput)
+  given_twice c =
+      next_given
+      ∙ ap (λ b. and_then (fault_unless (not b) (broken_at (first_name g.path) rule.DuplicateInput)) (rest (before ++ (first_name g.path).text ∷ []))) (among (first_name g.path).text before c)
+
+  pub given_once : ¬ Contains before (first_name g.path).text → once_fault before (given_names (drop i gs)) ≡ rest (texts (given_names (take (i + 1) gs)))
+  given_once fresh =
+      let none = false_of (is_among (first_name g.path).text before) (λ t. fresh (listed (first_name g.path).text before t)) in
+      next_given
+      ∙ ap (λ b. and_then (fault_unless (not b) (broken_at (first_name g.path) rule.DuplicateInput)) (rest (before ++ (first_name g.path).text ∷ []))) none
+      ∙ ap rest (sym (names_more gs i g lt is))

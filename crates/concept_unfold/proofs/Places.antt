@@ -1,41 +1,18 @@
 -- The number of a variable.
-use Rattle.std.proofs.Common.{◌≡◌, ◌≢◌, ℕ, zero, suc, ◌+◌, ◌<◌, Bool, true, false, List, [], ◌∷◌, ◌++◌, length, get_or, map, Some, refl, sym, ap, ◌∙◌, subst, ⊎_elim, add_comm, add-one, arith}
+use Rattle.std.proofs.Common.{◌≡◌, ℕ, ◌+◌, ◌<◌, Bool, true, false, List, [], ◌∷◌, ◌++◌, length, get_or, map, Some, refl, sym, ap, ◌∙◌, subst, ⊎_elim, add_comm, add-one, arith}
 use Rattle.std.specs.Prelude.{Contains, All, slice_get}
-use Rattle.std.specs.List.{AllPairs, position_or_len}
+use Rattle.std.specs.List.{position_or_len}
 use Rattle.std.specs.Str.{bytes_eq}
-use Rattle.std.proofs.lemmas.Option.{get_or_from_slice_get}
 use Rattle.std.proofs.lemmas.Slice.Eq.{bytes_eq-Decides}
 use Rattle.std.proofs.lemmas.List.Elements.{All-nil, All-cons, All-head, All-tail, All-get_or}
 use Rattle.priz_base.proofs.More.{some_below}
 use Rattle.priz_base.proofs.Members.{contains_cases, contains_none}
 use Rattle.utopist_syntax.specs.declared.path.Path.{Path}
 use Rattle.utopist_syntax.specs.Named.{Named}
-use Rattle.concept_unfold.specs.Paths.{first_of, first_name, IsOneOf}
+use Rattle.concept_rules.specs.Paths.{first_of}
+use Rattle.concept_rules.proofs.Lookup.{first_is, first_is_not}
+use Rattle.concept_unfold.specs.Paths.{first_name, IsOneOf}
 use Rattle.concept_unfold.specs.Unfolded.{AreKnown, var_number}
-
-pub false_of : (b : Bool) → (b ≡ true → ⊥) → b ≡ false
-false_of true h = absurd (h refl)
-false_of false h = refl
-
-pub first_is : (x : List ℕ) (xs : List (List ℕ)) (n : List ℕ) → bytes_eq n x ≡ true → position_or_len (bytes_eq n) (x ∷ xs) ≡ 0
-first_is x xs n e = rw e refl
-
-pub first_is_not : (x : List ℕ) (xs : List (List ℕ)) (n : List ℕ) → bytes_eq n x ≡ false → position_or_len (bytes_eq n) (x ∷ xs) ≡ 1 + position_or_len (bytes_eq n) xs
-first_is_not x xs n e = rw e refl
-
-tail_distinct : (x : List ℕ) (xs : List (List ℕ)) → AllPairs (λ a b. a ≢ b) (x ∷ xs) → AllPairs (λ a b. a ≢ b) xs
-tail_distinct x xs h i j d l m = h (suc i) (suc j) d (omega arith) (omega arith)
-
--- where names are distinct, a name stands first at the place where it stands
-pub place_at : (names : List (List ℕ)) (n : List ℕ) (k : ℕ) → AllPairs (λ a b. a ≢ b) names → slice_get names k ≡ Some n → position_or_len (bytes_eq n) names ≡ k
-place_at [] n k d e = absurd (cc)
-place_at (x ∷ xs) n zero d e =
-    let same : n ≡ x = cc in first_is x xs n ((bytes_eq-Decides n x).1 same)
-place_at (x ∷ xs) n (suc k) d e =
-    let lt = some_below xs k n e in
-    let other : bytes_eq n x ≡ false =
-    false_of (bytes_eq n x) (λ t. d 0 (suc k) x (omega arith) (omega arith) (sym ((bytes_eq-Decides n x).0 t) ∙ sym (get_or_from_slice_get xs k n x e))) in
-    first_is_not x xs n other ∙ omega (arith, place_at xs n k (tail_distinct x xs d) e)
 
 found_at : (x : List ℕ) (xs : List (List ℕ)) (n : List ℕ) (b : Bool) → bytes_eq n x ≡ b → Contains (x ∷ xs) n → (Contains xs n → slice_get xs (position_or_len (bytes_eq n) xs) ≡ Some n) → slice_get (x ∷ xs) (position_or_len (bytes_eq n) (x ∷ xs)) ≡ Some n
 found_at x xs n true e c rest = rw (first_is x xs n e) (ap Some (sym ((bytes_eq-Decides n x).0 e)))

@@ -1,4 +1,5 @@
--- The forms that are built: numeric variables without bindings, and relations of plain inputs, whose bodies call nothing.
+-- The forms that are built: numeric variables without bindings, and relations of plain inputs, whose bodies call
+-- nothing.
 use Rattle.std.specs.Prelude.{◌≡◌, ◌≤ℤ◌, pos, [], All, Option, Some, None}
 use Rattle.utopist_syntax.specs.declared.item.VarKind.TheVariants.{Numeric}
 use Rattle.utopist_syntax.specs.declared.item.Part.{Part}

@@ -1,13 +1,10 @@
 pub mod Built
 pub mod Paths
 pub mod Declarations
-pub mod Rows
 pub mod Limits
-pub mod ConceptRules
 pub mod UnfoldingRules
 pub mod Unfolded
 pub mod Answers
-pub mod BodyFault
 pub mod Bodies
 pub mod Nodes
 pub mod steps

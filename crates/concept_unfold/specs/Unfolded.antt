@@ -42,7 +42,8 @@ statements_of vars (rel name parts output body) = plain_statement vars parts out
 abbrev pub given_of : List (List ℕ) → GivenPath → Given
 given_of vars g = record { var = var_number vars g.path; value = g.value }
 
--- the problem of these items and a compute statement: variables, statements, what is given and what is wanted, each in the order of the text
+-- the problem of these items and a compute statement: variables, statements, what is given and what is wanted, each in
+-- the order of the text
 abbrev pub problem_from : List ItemTree → Compute → Task
 problem_from items c = record {
   names = all_variables items;

@@ -1,3 +1,5 @@
 -- What only private functions ask for.
 pub mod InputPlaces
-pub mod LoopNames
+pub mod RoundNames
+pub mod Plain
+pub mod PlainFile

@@ -6,13 +6,13 @@ ghost use Rattle.utopist_syntax.specs.View.{tree_of};
 ghost use Rattle.utopist_syntax.specs.FileTree.{body_expr_tree};
 ghost use Rattle.concept_unfold.specs.Built.{IsBuiltExpr, IsBuiltBody};
 ghost use Rattle.concept_unfold.specs.Paths.{inputs_of, input_names, first_name};
-ghost use Rattle.concept_unfold.specs.steps.LoopNames.{loop_names};
+ghost use Rattle.concept_unfold.specs.steps.RoundNames.{round_names};
 ghost use Rattle.concept_unfold.specs.steps.InputPlaces.{ArePlaces};
 ghost use Rattle.concept_unfold.specs.Nodes.{nodes, body_nodes};
 ghost use Rattle.concept_unfold.specs.Bodies.{named, loop_body as kind_of_loop, expr_body, body_over};
 
 use crate::inputs::{Inputs, first_text};
-use crate::loops::{Loops, number_of};
+use crate::rounds::{Rounds, number_of};
 use body_lang::{Body, LoopKind};
 use priz_base::NoMem;
 use priz_frac::Frac;
@@ -35,17 +35,18 @@ pub(crate) fn body_of(
         return Ok(None);
     };
     let inputs = Inputs::of(alloc, parts)?;
-    let body = body_at(alloc, &inputs, &Loops::Outermost, expr)?;
+    let body = body_at(alloc, &inputs, &Rounds::Outermost, expr)?;
     Ok(Some(body))
 }
 
 // Inside the rounds of these loops.
-fn body_at(alloc: Global, inputs: &Inputs, rounds: &Loops, expr: &Expr) -> Result<Body, NoMem>
+fn body_at(alloc: Global, inputs: &Inputs, rounds: &Rounds, expr: &Expr) -> Result<Body, NoMem>
     requires built { IsBuiltExpr (tree_of expr.now) }
     requires inputs { inputs.now.count < 2 ^ 32 }
-    requires few { length (loop_names rounds.now) + nodes (tree_of expr.now) < 2 ^ 32 }
+    requires few { length (round_names rounds.now) + nodes (tree_of expr.now) < 2 ^ 32 }
     ensures { (names : List (List ℕ)) → ArePlaces inputs.now names
-        → IfOk result (λ b. body_tree b ≡ expr_body names (loop_names rounds.now) (tree_of expr.now)) }
+        → IfOk result (λ b. body_tree b
+        ≡ expr_body names (round_names rounds.now) (tree_of expr.now)) }
 {
     match expr {
         Expr::Num(n) => Ok(Body::Num(Frac::from_whole(*n))),
@@ -91,7 +92,7 @@ fn body_at(alloc: Global, inputs: &Inputs, rounds: &Loops, expr: &Expr) -> Resul
         } => {
             let first = Boxed::new(alloc, body_at(alloc, inputs, rounds, first.get())?)?;
             let second = Boxed::new(alloc, body_at(alloc, inputs, rounds, second.get())?)?;
-            let round = Loops::Inside {
+            let round = Rounds::Inside {
                 name: name.text(),
                 around: &*rounds,
             };
@@ -107,7 +108,8 @@ fn body_at(alloc: Global, inputs: &Inputs, rounds: &Loops, expr: &Expr) -> Resul
 }
 
 fn loop_body(kind: LoopKind, first: Boxed<Body>, second: Boxed<Body>, each: Boxed<Body>) -> Body
-    ensures { body_tree result ≡ kind_of_loop kind (body_tree first) (body_tree second) (body_tree each) }
+    ensures { body_tree result
+        ≡ kind_of_loop kind (body_tree first) (body_tree second) (body_tree each) }
 {
     match kind {
         LoopKind::Sum => Body::Sum {
@@ -129,11 +131,11 @@ fn loop_body(kind: LoopKind, first: Boxed<Body>, second: Boxed<Body>, each: Boxe
 }
 
 // What a path stands for.
-fn named(inputs: &Inputs, rounds: &Loops, path: &Path) -> Body
+fn named(inputs: &Inputs, rounds: &Rounds, path: &Path) -> Body
     requires inputs { inputs.now.count < 2 ^ 32 }
-    requires few { length (loop_names rounds.now) < 2 ^ 32 }
+    requires few { length (round_names rounds.now) < 2 ^ 32 }
     ensures { (names : List (List ℕ)) → ArePlaces inputs.now names
-        → body_tree result ≡ named names (loop_names rounds.now) (first_name path.now).text }
+        → body_tree result ≡ named names (round_names rounds.now) (first_name path.now).text }
 {
     let name = first_text(path);
     match number_of(rounds, name) {

@@ -3,7 +3,6 @@ ghost use Rattle.std.specs.List.{position_or_len};
 ghost use Rattle.std.specs.Str.{bytes_eq};
 ghost use Rattle.concept_unfold.specs.Paths.{first_name, input_names};
 ghost use Rattle.concept_unfold.specs.steps.InputPlaces.{ArePlaces};
-ghost use Rattle.concept_unfold.specs.BodyFault.{is_among};
 
 use priz_base::NoMem;
 use sqlite_items::Items;
@@ -54,7 +53,8 @@ impl Inputs {
 
     fn add_part(&mut self, part: &Part) -> Result<(), NoMem>
         requires { self.old.count < 2 ^ 64 - 1 }
-        ensures { OnOk result ((names : List (List ℕ)) → ArePlaces self.old names → ArePlaces self.new (names ++ input_names (part.now ∷ []))) }
+        ensures { OnOk result ((names : List (List ℕ)) → ArePlaces self.old names
+            → ArePlaces self.new (names ++ input_names (part.now ∷ []))) }
     {
         if let Part::Input(path) = part {
             self.add(first_text(path))?;
@@ -64,7 +64,8 @@ impl Inputs {
 
     fn add(&mut self, name: &str) -> Result<(), NoMem>
         requires { self.old.count < 2 ^ 64 - 1 }
-        ensures { OnOk result ((names : List (List ℕ)) → ArePlaces self.old names → ArePlaces self.new (names ++ name.now ∷ [])) }
+        ensures { OnOk result ((names : List (List ℕ)) → ArePlaces self.old names
+            → ArePlaces self.new (names ++ name.now ∷ [])) }
     {
         if !self.names.has(name) {
             self.firsts.push(self.count)?;
@@ -74,16 +75,10 @@ impl Inputs {
         Ok(())
     }
 
-    /// Whether an input has this name.
-    pub(crate) fn has(&self, name: &str) -> bool
-        ensures { (names : List (List ℕ)) → ArePlaces self.now names → result ≡ is_among name.now names }
-    {
-        self.names.has(name)
-    }
-
     /// The place of the first input of this name, or the number of inputs where there is none.
     pub(crate) fn place(&self, name: &str) -> usize
-        ensures place { (names : List (List ℕ)) → ArePlaces self.now names → result ≡ position_or_len (bytes_eq name.now) names }
+        ensures place { (names : List (List ℕ)) → ArePlaces self.now names
+            → result ≡ position_or_len (bytes_eq name.now) names }
         ensures below { result ≤ self.now.count }
     {
         match self.names.place(name) {

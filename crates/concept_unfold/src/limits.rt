@@ -1,16 +1,14 @@
-ghost use Rattle.std.specs.Prelude.{◌≡◌, ◌-◌, ◌^◌, length, map, min};
+ghost use Rattle.std.specs.Prelude.{◌≡◌, ◌<◌, ◌-◌, ◌^◌, ℕ, length, map, min};
 ghost use Rattle.std.specs.List.{sum_by};
 ghost use Rattle.utopist_syntax.specs.View.{tree_of};
 ghost use Rattle.utopist_syntax.specs.FileTree.{item_tree, body_expr_tree};
 ghost use Rattle.concept_unfold.specs.Paths.{inputs_of};
 ghost use Rattle.concept_unfold.specs.Nodes.{nodes, body_nodes};
 ghost use Rattle.concept_unfold.specs.Declarations.{variables, all_variables};
-ghost use Rattle.concept_unfold.specs.Rows.{Checks};
-ghost use Rattle.concept_unfold.specs.UnfoldingRules.{item_size, item_statements, limit_rows};
+ghost use Rattle.concept_unfold.specs.UnfoldingRules.{item_size, item_statements, within_limit, limits_fault};
 
-use crate::fault::{Limit, UnfoldFault};
-use crate::rules::expect_at_most;
-use utopist_syntax::{Compute, Expr, Item, Part};
+use concept_rules::{Limit, ModelFault, Rule, broken_at};
+use utopist_syntax::{Expr, Item, Name, Part};
 
 const MAX_PATHS: usize = 8192;
 
@@ -28,11 +26,10 @@ struct Counts {
     statements: usize,
 }
 
-/// Checks the limits of the problem of these items.
-pub(crate) fn check_limits(compute: &Compute, items: &[Item]) -> Result<(), UnfoldFault>
-    ensures { Checks (limit_rows compute.now (map item_tree items.now)) result }
+/// Checks the limits of the problem of these items, at the name of its compute statement.
+pub(crate) fn check_limits(name: &Name, items: &[Item]) -> Result<(), ModelFault>
+    ensures { result ≡ limits_fault name.now (map item_tree items.now) }
 {
-    let name = &compute.name;
     let counts = count(items);
     expect_at_most(name, Limit::Paths, MAX_PATHS, counts.variables)?;
     expect_at_most(name, Limit::Variables, MAX_VARIABLES, counts.variables)?;
@@ -40,10 +37,23 @@ pub(crate) fn check_limits(compute: &Compute, items: &[Item]) -> Result<(), Unfo
     expect_at_most(name, Limit::Statements, MAX_STATEMENTS, counts.statements)
 }
 
+// There are no more than the most. The count ends at the type's last value.
+fn expect_at_most(name: &Name, limit: Limit, most: usize, count: usize) -> Result<(), ModelFault>
+    requires { most < 2 ^ 64 - 1 }
+    ensures { (n : ℕ) → count ≡ min n (2 ^ 64 - 1) → result ≡ within_limit name.now limit most n }
+{
+    if count > most {
+        return Err(broken_at(name, Rule::TooMany(limit)));
+    }
+    Ok(())
+}
+
 fn count(items: &[Item]) -> Counts
-    ensures variables { result.variables ≡ min (length (all_variables (map item_tree items.now))) (2 ^ 64 - 1) }
+    ensures variables { result.variables
+        ≡ min (length (all_variables (map item_tree items.now))) (2 ^ 64 - 1) }
     ensures size { result.size ≡ min (sum_by item_size (map item_tree items.now)) (2 ^ 64 - 1) }
-    ensures statements { result.statements ≡ min (sum_by item_statements (map item_tree items.now)) (2 ^ 64 - 1) }
+    ensures statements { result.statements
+        ≡ min (sum_by item_statements (map item_tree items.now)) (2 ^ 64 - 1) }
 {
     let mut variables = 0usize;
     let mut size = 0usize;

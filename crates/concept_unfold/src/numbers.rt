@@ -26,7 +26,8 @@ pub(crate) fn input_vars(
     parts: &[Part],
 ) -> Result<Items<Var>, NoMem>
     requires { AreKnown problem.now.names (inputs_of parts.now) }
-    ensures numbers { IfOk result (λ vs. vs ≡ map (var_number problem.now.names) (inputs_of parts.now)) }
+    ensures numbers { IfOk result (λ vs. vs
+        ≡ map (var_number problem.now.names) (inputs_of parts.now)) }
     ensures below { IfOk result (AreVars (var_count problem.now)) }
 {
     let mut vars = Items::new(alloc);
@@ -38,7 +39,8 @@ pub(crate) fn input_vars(
 
 fn add_input(vars: &mut Items<Var>, problem: &Problem, part: &Part) -> Result<(), NoMem>
     requires { AreKnown problem.now.names (input_in part.now) }
-    ensures { OnOk result (vars.new ≡ vars.old ++ map (var_number problem.now.names) (input_in part.now)) }
+    ensures { OnOk result (vars.new
+        ≡ vars.old ++ map (var_number problem.now.names) (input_in part.now)) }
 {
     if let Part::Input(path) = part {
         vars.push(var_of(problem, path))?;

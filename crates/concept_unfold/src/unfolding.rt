@@ -1,18 +1,18 @@
-ghost use Rattle.std.specs.Prelude.{◌≡◌, ◌≢◌, ◌<◌, [], length, map, slice_get, Some, All, IfOk};
+ghost use Rattle.std.specs.Prelude.{◌≡◌, ◌≢◌, ◌<◌, [], length, map, slice_get, Some, Ok, All, IfOk};
 ghost use Rattle.statement_set.specs.Problem.{IsPlain, IsWhole};
 ghost use Rattle.utopist_syntax.specs.declared.compute.Compute.{Compute};
 ghost use Rattle.utopist_syntax.specs.FileTree.{item_tree, concept_tree, file_tree};
 ghost use Rattle.utopist_syntax.specs.Shape.{HasShape};
 ghost use Rattle.concept_unfold.specs.Built.{IsBuilt};
-ghost use Rattle.concept_unfold.specs.Rows.{AllHold};
-ghost use Rattle.concept_unfold.specs.ConceptRules.{concept_rules};
+ghost use Rattle.concept_rules.specs.Limits.{max_computes};
+ghost use Rattle.concept_rules.specs.ConceptRules.{file_fault};
 ghost use Rattle.concept_unfold.specs.Declarations.{items_of};
 ghost use Rattle.concept_unfold.specs.Answers.{UnfoldOf};
 
-use crate::fault::UnfoldFault;
 use crate::goal::add_goal;
 use crate::items::add_items;
 use crate::limits::check_limits;
+use concept_rules::UnfoldFault;
 use statement_set::Problem;
 use std::alloc::Global;
 use utopist_syntax::{Concept, File, Item};
@@ -21,15 +21,16 @@ use utopist_syntax::{Concept, File, Item};
 pub fn unfold(alloc: Global, file: &File, which: u32) -> Result<Problem, UnfoldFault>
     requires which { which < length file.now.computes }
     requires built { IsBuilt (file_tree file.now) }
-    requires rules { AllHold (concept_rules (file_tree file.now)) }
+    requires rules { file_fault max_computes (file_tree file.now) ≡ Ok tt }
     requires shape { HasShape (file_tree file.now) }
-    ensures problem { (c : Compute) → slice_get file.now.computes which ≡ Some c → UnfoldOf (file_tree file.now) c result }
+    ensures problem { (c : Compute) → slice_get file.now.computes which ≡ Some c
+        → UnfoldOf (file_tree file.now) c result }
     ensures whole { IfOk result IsWhole }
     ensures plain { IfOk result IsPlain }
 {
     let compute = &file.computes.as_slice()[which as usize];
     let items = items_of(file.concepts.as_slice(), compute.name.text());
-    check_limits(compute, items)?;
+    check_limits(&compute.name, items)?;
     let mut problem = Problem::new(alloc);
     add_items(alloc, &mut problem, items)?;
     add_goal(&mut problem, compute)?;

@@ -1,4 +1,3 @@
-pub mod Rows
 pub mod Unfolds
 pub mod Steps
 pub mod OneCause

@@ -1,5 +1,5 @@
 -- A text is refused for one cause.
-use Rattle.std.proofs.Common.{◌≡◌, ◌⊎◌, inl, inr, ℕ, Bool, true, false, List, [], ◌∷◌, ◌++◌, refl, sym, ap, subst, ◌∙◌}
+use Rattle.std.proofs.Common.{◌≡◌, ◌⊎◌, inl, inr, Ok, Err, ℕ, Bool, true, false, List, [], ◌∷◌, ◌++◌, refl, sym, ap, subst, ◌∙◌}
 use Rattle.std.specs.Str.{chars}
 use Rattle.priz_base.specs.declared.place.Place.{Place}
 use Rattle.utopist_lexer.specs.Lexical.{Tok}
@@ -9,11 +9,9 @@ use Rattle.utopist_parser.specs.declared.parser.ParseFault.{ParseFault}
 use Rattle.utopist_parser.specs.declared.parser.ParseFault.TheVariants as parsing
 use Rattle.utopist_parser.specs.Forms.{ReadsAs, FailsAs}
 use Rattle.utopist_parser.proofs.OneAnswer.{one_tree, one_failure, not_tree_and_fault}
-use Rattle.concept_unfold.specs.declared.fault.ModelFault.{ModelFault}
+use Rattle.concept_rules.specs.declared.fault.ModelFault.{ModelFault}
 use Rattle.concept_unfold.specs.Built.{IsBuilt}
-use Rattle.concept_unfold.specs.Rows.{AllHold, FirstFailing}
-use Rattle.concept_unfold.specs.UnfoldingRules.{rules_of}
-use Rattle.concept_unfold.proofs.OneFault.{one_fault, not_all}
+use Rattle.concept_unfold.specs.UnfoldingRules.{model_fault}
 use Rattle.file_accept.specs.declared.unbuilt.Context.{Context}
 use Rattle.file_accept.specs.declared.fault.FileFault.{FileFault}
 use Rattle.file_accept.specs.declared.fault.FileFault.TheVariants as fault
@@ -47,12 +45,12 @@ one_unbuilt ts p q u v =
 
 -- ---- causes
 
--- reading the text fails; or a form is not built; or a rule fails
+-- reading the text fails; or a form is not built; or the file breaks a rule
 abbrev Cause : List ℕ → FileFault → Type 0
 Cause text e =
     ((d : ParseFault) × (parse_fault d ≡ e) × FailsAs text d)
     ⊎ (((p : Place) × (fault.Expected p ≡ e) × IsUnbuilt text p)
-    ⊎ ((m : ModelFault) × (fault.Model m ≡ e) × ((f : FileTree) × ReadsAs text f × IsBuilt f × FirstFailing (rules_of f) m)))
+    ⊎ ((m : ModelFault) × (fault.Model m ≡ e) × ((f : FileTree) × ReadsAs text f × IsBuilt f × (model_fault f ≡ Err m))))
 
 cause_of : (text : List ℕ) (e : FileFault) → Refuses text e → Cause text e
 cause_of text (fault.Lex f) h = inl (parsing.Lex f, refl, h)
@@ -62,9 +60,9 @@ cause_of text (fault.TooDeep p) h = inl (parsing.TooDeep p, refl, h)
 cause_of text (fault.Model m) h = inr (inr (m, refl, h))
 cause_of text fault.NoMem h = absurd h
 
-one_model : (text : List ℕ) (f g : FileTree) (m l : ModelFault) → ReadsAs text f → ReadsAs text g → FirstFailing (rules_of f) m → FirstFailing (rules_of g) l → m ≡ l
+one_model : (text : List ℕ) (f g : FileTree) (m l : ModelFault) → ReadsAs text f → ReadsAs text g → model_fault f ≡ Err m → model_fault g ≡ Err l → m ≡ l
 one_model text f g m l s t h k =
-    one_fault (rules_of f) m l h (subst (λ (x : FileTree). FirstFailing (rules_of x) l) (one_tree text g f t s) k)
+    let same = subst (λ (x : FileTree). model_fault x ≡ Err l) (one_tree text g f t s) k in cc
 
 -- a file with a form that is not built is none whose forms are built
 unbuilt_not_built : (text : List ℕ) (p : Place) (f : FileTree) → IsUnbuilt text p → ReadsAs text f → IsBuilt f → ⊥
@@ -95,7 +93,8 @@ accepted_not_refused text f e accepted h = by (cause_of text e h) where
   by (inl a) = not_tree_and_fault text f a.0 accepted.tree a.2
   by (inr (inl a)) = unbuilt_not_built text a.0 f a.2 accepted.tree accepted.built
   by (inr (inr a)) =
-      not_all (rules_of a.2.0) a.0 a.2.3 (subst (λ (x : FileTree). AllHold (rules_of x)) (one_tree text f a.2.0 accepted.tree a.2.1) accepted.rules)
+      let kept = subst (λ (x : FileTree). model_fault x ≡ Ok tt) (one_tree text f a.2.0 accepted.tree a.2.1) accepted.rules in
+      let broken = a.2.3 in absurd (cc)
 
 -- it is accepted as one file
 pub one_file : (text : List ℕ) (f g : FileTree) → Accepts text f → Accepts text g → f ≡ g

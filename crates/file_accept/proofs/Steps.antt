@@ -15,11 +15,11 @@ use Rattle.utopist_parser.specs.declared.parser.ParseFault.{ParseFault}
 use Rattle.utopist_parser.specs.declared.parser.ParseFault.TheVariants as parsing
 use Rattle.utopist_parser.specs.Forms.{ReadsAs, ParseOf}
 use Rattle.statement_set.specs.Problem.{Task}
-use Rattle.concept_unfold.specs.declared.fault.UnfoldFault.{UnfoldFault}
-use Rattle.concept_unfold.specs.declared.fault.UnfoldFault.TheVariants as rules
+use Rattle.concept_rules.specs.declared.fault.UnfoldFault.{UnfoldFault}
+use Rattle.concept_rules.specs.declared.fault.UnfoldFault.TheVariants as rules
 use Rattle.concept_unfold.specs.Built.{IsBuilt}
-use Rattle.concept_unfold.specs.Rows.{Checks}
-use Rattle.concept_unfold.specs.UnfoldingRules.{rules_of}
+use Rattle.concept_rules.specs.Checks.{Checks}
+use Rattle.concept_unfold.specs.UnfoldingRules.{model_fault}
 use Rattle.file_accept.specs.declared.fault.FileFault.{FileFault}
 use Rattle.file_accept.specs.declared.fault.FileFault.TheVariants as fault
 use Rattle.file_accept.specs.Unbuilt.{not_solved, opens, at_start, behind_all, NoneOpens, kinds_of, FirstLeftOut, LeftOutOf}
@@ -92,11 +92,11 @@ no_form text (fault.TooDeep p) h = h
 no_form text (fault.Model m) h = h
 no_form text fault.NoMem h = tt
 
--- nor has one for whose file a rule fails
-pub rule_fails : (text : List ℕ) (f : File) (e : UnfoldFault) → FormOf text (Ok f) → Checks {X = List Task} (rules_of (file_tree f)) (Err e) → ProblemsOf text (Err (unfold_fault e))
-rule_fails text f (rules.Model m) form h = (file_tree f, form.0, form.1, h)
-rule_fails text f rules.NoMem form h = tt
+-- nor has one whose file breaks a rule
+pub breaks_rule : (text : List ℕ) (f : File) (e : UnfoldFault) → FormOf text (Ok f) → Checks {X = List Task} (model_fault (file_tree f)) (Err e) → ProblemsOf text (Err (unfold_fault e))
+breaks_rule text f (rules.Model m) form h = (file_tree f, form.0, form.1, h)
+breaks_rule text f rules.NoMem form h = tt
 
--- where none fails it is accepted
-pub all_hold : (text : List ℕ) (f : File) (ps : List Task) → FormOf text (Ok f) → Checks (rules_of (file_tree f)) (Ok ps) → ps ≡ problems_of (file_tree f) → ProblemsOf text (Ok ps)
-all_hold text f ps form h e = (file_tree f, record { tree = form.0; built = form.1; rules = h }, e)
+-- where it breaks none it is accepted
+pub breaks_none : (text : List ℕ) (f : File) (ps : List Task) → FormOf text (Ok f) → Checks (model_fault (file_tree f)) (Ok ps) → ps ≡ problems_of (file_tree f) → ProblemsOf text (Ok ps)
+breaks_none text f ps form h e = (file_tree f, record { tree = form.0; built = form.1; rules = h }, e)

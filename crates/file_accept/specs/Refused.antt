@@ -1,5 +1,5 @@
 -- The texts that are refused, and why.
-use Rattle.std.specs.Prelude.{ℕ, ◌⊎◌, List}
+use Rattle.std.specs.Prelude.{◌≡◌, ℕ, ◌⊎◌, List, Err}
 use Rattle.std.specs.Str.{chars}
 use Rattle.priz_base.specs.declared.place.Place.{Place}
 use Rattle.utopist_lexer.specs.Lexical.{Tok}
@@ -8,8 +8,7 @@ use Rattle.utopist_syntax.specs.FileTree.{FileTree}
 use Rattle.utopist_parser.specs.Begins.{BeginsNone, BeginsTooDeep, FirstWrong}
 use Rattle.utopist_parser.specs.Forms.{ReadsAs, FirstFault}
 use Rattle.concept_unfold.specs.Built.{IsBuilt}
-use Rattle.concept_unfold.specs.Rows.{FirstFailing}
-use Rattle.concept_unfold.specs.UnfoldingRules.{rules_of}
+use Rattle.concept_unfold.specs.UnfoldingRules.{model_fault}
 use Rattle.file_accept.specs.declared.fault.FileFault.{FileFault}
 use Rattle.file_accept.specs.declared.fault.FileFault.TheVariants as fault
 use Rattle.file_accept.specs.Unbuilt.{not_solved, FirstLeftOut}
@@ -30,7 +29,7 @@ Refuses text (fault.Lex f) = FirstFault text f
 Refuses text (fault.Expected p) = FirstWrong BeginsNone (chars text) p ⊎ IsUnbuilt text p
 -- with this token only files begin that are nested too deep
 Refuses text (fault.TooDeep p) = FirstWrong BeginsTooDeep (chars text) p
--- of the rules for the file that it reads as, this one fails first
-Refuses text (fault.Model m) = (f : FileTree) × ReadsAs text f × IsBuilt f × FirstFailing (rules_of f) m
+-- of the rules, this one is the first that the file breaks that it reads as
+Refuses text (fault.Model m) = (f : FileTree) × ReadsAs text f × IsBuilt f × (model_fault f ≡ Err m)
 -- want of memory says nothing of the text
 Refuses text fault.NoMem = ⊥

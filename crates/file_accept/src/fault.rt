@@ -2,7 +2,7 @@ ghost use Rattle.std.specs.Prelude.{◌≡◌};
 ghost use Rattle.file_accept.specs.declared.fault.FileFault.TheVariants.{NoMem};
 ghost use Rattle.file_accept.specs.steps.Faults.{parse_fault, unfold_fault};
 
-use concept_unfold::{ModelFault, UnfoldFault};
+use concept_rules::{ModelFault, UnfoldFault};
 use priz_base::Place;
 use std::alloc::{AllocError, AllocFailed};
 use utopist_lexer::LexFault;
@@ -17,7 +17,7 @@ pub enum FileFault {
     Expected(Place),
     /// With this token an expression is nested more than 64 deep.
     TooDeep(Place),
-    /// A rule of concepts or of unfolding fails.
+    /// The file breaks a rule of concepts or of unfolding.
     Model(ModelFault),
     /// Want of memory.
     NoMem,

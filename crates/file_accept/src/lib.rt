@@ -8,6 +8,8 @@ mod reading;
 #[cfg(test)]
 mod tests;
 #[cfg(test)]
+mod tests_concepts;
+#[cfg(test)]
 mod tests_limits;
 #[cfg(test)]
 mod tests_problems;

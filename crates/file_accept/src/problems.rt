@@ -1,18 +1,19 @@
-ghost use Rattle.std.specs.Prelude.{◌≡◌, ◌≤◌, length, All, IfOk, OnOk, ◌++◌, ◌∷◌, []};
-ghost use Rattle.std.specs.List.{flat_map};
+ghost use Rattle.std.specs.Prelude.{◌≡◌, ◌≤◌, length, Ok, All, IfOk, OnOk, ◌++◌, ◌∷◌, []};
 ghost use Rattle.priz_base.specs.Reading.{max_input};
 ghost use Rattle.statement_set.specs.Problem.{IsPlain};
 ghost use Rattle.utopist_syntax.specs.Shape.{HasShape};
 ghost use Rattle.utopist_syntax.specs.FileTree.{file_tree};
+ghost use Rattle.concept_rules.specs.Limits.{max_computes};
+ghost use Rattle.concept_rules.specs.ConceptRules.{file_fault};
+ghost use Rattle.concept_rules.specs.Checks.{Checks};
 ghost use Rattle.concept_unfold.specs.Built.{IsBuilt};
-ghost use Rattle.concept_unfold.specs.Rows.{AllHold, Checks};
-ghost use Rattle.concept_unfold.specs.ConceptRules.{concept_rules};
-ghost use Rattle.concept_unfold.specs.UnfoldingRules.{unfolding_rules, rules_of};
+ghost use Rattle.concept_unfold.specs.UnfoldingRules.{unfoldings_fault, model_fault};
 ghost use Rattle.file_accept.specs.Problems.{problems_of, ProblemsOf};
 
 use crate::fault::FileFault;
 use crate::reading::file_of;
-use concept_unfold::{UnfoldFault, check_concepts, unfold};
+use concept_rules::{UnfoldFault, check_concepts};
+use concept_unfold::unfold;
 use priz_base::NoMem;
 use sqlite_items::Items;
 use statement_set::Problem;
@@ -33,7 +34,7 @@ pub fn problems_of(alloc: Global, text: &str) -> Result<Items<Problem>, FileFaul
 fn unfold_file(alloc: Global, file: &File) -> Result<Items<Problem>, UnfoldFault>
     requires built { IsBuilt (file_tree file.now) }
     requires shape { HasShape (file_tree file.now) }
-    ensures rules { Checks (rules_of (file_tree file.now)) result }
+    ensures rules { Checks (model_fault (file_tree file.now)) result }
     ensures problems { IfOk result (λ ps. ps ≡ problems_of (file_tree file.now)) }
     ensures plain { IfOk result (All IsPlain) }
 {
@@ -42,10 +43,10 @@ fn unfold_file(alloc: Global, file: &File) -> Result<Items<Problem>, UnfoldFault
 }
 
 fn unfold_all(alloc: Global, file: &File) -> Result<Items<Problem>, UnfoldFault>
-    requires rules { AllHold (concept_rules (file_tree file.now)) }
+    requires rules { file_fault max_computes (file_tree file.now) ≡ Ok tt }
     requires built { IsBuilt (file_tree file.now) }
     requires shape { HasShape (file_tree file.now) }
-    ensures rules { Checks (flat_map (unfolding_rules (file_tree file.now)) file.now.computes) result }
+    ensures rules { Checks (unfoldings_fault (file_tree file.now) file.now.computes) result }
     ensures problems { IfOk result (λ ps. ps ≡ problems_of (file_tree file.now)) }
     ensures plain { IfOk result (All IsPlain) }
 {

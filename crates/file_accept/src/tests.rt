@@ -1,6 +1,6 @@
 // What texts have, or why they have nothing.
 use crate::{FileFault, problems_of};
-use concept_unfold::{ModelFault, Rule};
+use concept_rules::{ModelFault, Rule};
 use priz_base::Place;
 use std::test::Fail;
 use utopist_lexer::{LexFault, LexKind};

@@ -1,6 +1,6 @@
 // Texts at the limits on what a file may have.
 use crate::tests_rules::{broken, refusal};
-use concept_unfold::{Limit, Rule};
+use concept_rules::{Limit, Rule};
 use std::alloc::{AllocError, Global};
 use std::test::Fail;
 

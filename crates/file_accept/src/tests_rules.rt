@@ -1,6 +1,6 @@
 // Texts that break each rule that can fail, and the first one that does.
 use crate::{FileFault, problems_of};
-use concept_unfold::{ModelFault, Rule};
+use concept_rules::{ModelFault, Rule};
 use priz_base::Place;
 use std::alloc::Global;
 use std::test::Fail;

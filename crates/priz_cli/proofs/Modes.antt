@@ -17,7 +17,7 @@ use Rattle.priz_cli.specs.declared.outcome.Outcome.TheVariants as outcome
 use Rattle.priz_cli.specs.declared.refusal.Refusal.{Refusal}
 use Rattle.priz_cli.specs.declared.refusal.Refusal.TheVariants as refusal
 use Rattle.priz_cli.specs.Modes.{IsInputOf, IsRefusedFor, IsDone}
-use Rattle.priz_cli.specs.steps.Faults.{file_fault}
+use Rattle.priz_cli.specs.steps.Faults.{fault_of_file}
 
 -- bytes whose longest front that is UTF-8 is shorter are not UTF-8
 not_text : (bytes : List ℕ) (n : ℕ) → IsValidUpTo bytes n → IsUtf8 bytes → ⊥
@@ -34,7 +34,7 @@ one_front bytes n m u v =
 abbrev Cause : List ℕ → Refusal → Type 0
 Cause bytes r =
     ((n : ℕ) × (refusal.NotUtf8 n ≡ r) × IsValidUpTo bytes n)
-    ⊎ ((e : FileFault) × (file_fault e ≡ fault.Refused r) × IsUtf8 bytes × Refuses bytes e)
+    ⊎ ((e : FileFault) × (fault_of_file e ≡ fault.Refused r) × IsUtf8 bytes × Refuses bytes e)
 
 file_cause : (bytes : List ℕ) (r : Refusal) → IsRefusedFor mode.Solve bytes r → Cause bytes r
 file_cause bytes (refusal.NotUtf8 n) h = inl (n, refl, h)
@@ -50,10 +50,10 @@ same_cause : (bytes : List ℕ) (r s : Refusal) → Cause bytes r → Cause byte
 same_cause bytes r s (inl a) (inl b) = sym a.1 ∙ ap (λ n. refusal.NotUtf8 n) (one_front bytes a.0 b.0 a.2 b.2) ∙ b.1
 same_cause bytes r s (inl a) (inr b) = absurd (not_text bytes a.0 a.2 b.2)
 same_cause bytes r s (inr a) (inl b) = absurd (not_text bytes b.0 b.2 a.2)
-same_cause bytes r s (inr a) (inr b) = refused_same r s (sym a.1 ∙ ap file_fault (one_cause bytes a.0 b.0 a.3 b.3) ∙ b.1)
+same_cause bytes r s (inr a) (inr b) = refused_same r s (sym a.1 ∙ ap fault_of_file (one_cause bytes a.0 b.0 a.3 b.3) ∙ b.1)
 
 -- a text that is refused is refused for its cause
-pub refused_text : (bytes : List ℕ) (e : FileFault) (r : Refusal) → file_fault e ≡ fault.Refused r → IsUtf8 bytes → Refuses bytes e → IsRefusedFor mode.Solve bytes r
+pub refused_text : (bytes : List ℕ) (e : FileFault) (r : Refusal) → fault_of_file e ≡ fault.Refused r → IsUtf8 bytes → Refuses bytes e → IsRefusedFor mode.Solve bytes r
 refused_text bytes (text.Lex f) r is utf8 h = subst (IsRefusedFor mode.Solve bytes) (refused_same (refusal.Lex f) r is) (utf8, h)
 refused_text bytes (text.Expected p) r is utf8 h = subst (IsRefusedFor mode.Solve bytes) (refused_same (refusal.Expected p) r is) (utf8, h)
 refused_text bytes (text.TooDeep p) r is utf8 h = subst (IsRefusedFor mode.Solve bytes) (refused_same (refusal.TooDeep p) r is) (utf8, h)

@@ -1,6 +1,6 @@
 ghost use Rattle.std.specs.Prelude.{◌≡◌};
 ghost use Rattle.priz_cli.specs.declared.fault.Fault.TheVariants as fault;
-ghost use Rattle.priz_cli.specs.steps.Faults.{file_fault};
+ghost use Rattle.priz_cli.specs.steps.Faults.{fault_of_file};
 
 use crate::refusal::Refusal;
 use file_accept::FileFault;
@@ -24,7 +24,7 @@ impl From<NoMem> for Fault {
 }
 
 impl From<FileFault> for Fault {
-    ghost from_gives = { λ f e. e ≡ file_fault f };
+    ghost from_gives = { λ f e. e ≡ fault_of_file f };
 
     fn from(fault: FileFault) -> Fault {
         match fault {

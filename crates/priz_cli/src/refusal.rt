@@ -1,4 +1,4 @@
-use concept_unfold::ModelFault;
+use concept_rules::ModelFault;
 use priz_base::Place;
 use utopist_lexer::LexFault;
 

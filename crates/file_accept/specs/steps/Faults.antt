@@ -1,8 +1,8 @@
 -- How the faults of the steps become those of a text.
 use Rattle.utopist_parser.specs.declared.parser.ParseFault.{ParseFault}
 use Rattle.utopist_parser.specs.declared.parser.ParseFault.TheVariants as parsing
-use Rattle.concept_unfold.specs.declared.fault.UnfoldFault.{UnfoldFault}
-use Rattle.concept_unfold.specs.declared.fault.UnfoldFault.TheVariants as rules
+use Rattle.concept_rules.specs.declared.fault.UnfoldFault.{UnfoldFault}
+use Rattle.concept_rules.specs.declared.fault.UnfoldFault.TheVariants as rules
 use Rattle.file_accept.specs.declared.fault.FileFault.{FileFault}
 use Rattle.file_accept.specs.declared.fault.FileFault.TheVariants as fault
 

@@ -6,9 +6,9 @@ use Rattle.priz_cli.specs.declared.fault.Fault.{Fault}
 use Rattle.priz_cli.specs.declared.fault.Fault.TheVariants as fault
 
 -- what is wrong with the text is wrong with the input
-abbrev pub file_fault : FileFault → Fault
-file_fault (text.Lex f) = fault.Refused (refusal.Lex f)
-file_fault (text.Expected p) = fault.Refused (refusal.Expected p)
-file_fault (text.TooDeep p) = fault.Refused (refusal.TooDeep p)
-file_fault (text.Model m) = fault.Refused (refusal.Model m)
-file_fault text.NoMem = fault.NoMem
+abbrev pub fault_of_file : FileFault → Fault
+fault_of_file (text.Lex f) = fault.Refused (refusal.Lex f)
+fault_of_file (text.Expected p) = fault.Refused (refusal.Expected p)
+fault_of_file (text.TooDeep p) = fault.Refused (refusal.TooDeep p)
+fault_of_file (text.Model m) = fault.Refused (refusal.Model m)
+fault_of_file text.NoMem = fault.NoMem

@@ -2,7 +2,7 @@ use Rattle.std.proofs.Common.{ℕ, List, subst, sym, ap}
 use Rattle.statement_set.specs.Problem.{Task}
 use Rattle.utopist_syntax.specs.declared.path.Path.{Path}
 use Rattle.utopist_syntax.specs.declared.compute.GivenPath.{GivenPath}
-use Rattle.concept_unfold.specs.Paths.{given_paths}
+use Rattle.concept_rules.specs.Paths.{given_paths}
 use Rattle.concept_unfold.specs.Unfolded.{AreKnown}
 use Rattle.concept_unfold.proofs.goal.add_goal.Goals as goal
 

@@ -1,19 +1,17 @@
-use Rattle.std.proofs.Common.{◌≡◌, ◌+◌, ◌≤◌, ℕ, List, [], ◌++◌, length, map, drop}
-use Rattle.std.specs.Prelude.{All, Contains}
+use Rattle.std.proofs.Common.{◌≡◌, ◌+◌, ◌≤◌, [], ◌++◌, length, map, drop}
 use Rattle.std.specs.List.{flat_map, sum_by}
 use Rattle.utopist_syntax.specs.FileTree.{item_tree}
 use Rattle.concept_unfold.specs.Limits.{max_statements}
 use Rattle.concept_unfold.specs.Declarations.{all_variables}
-use Rattle.concept_unfold.specs.Rows.{AllHold}
-use Rattle.concept_unfold.specs.ConceptRules.{items_rows}
+use Rattle.concept_unfold.specs.steps.Plain.{ItemsFollow}
 use Rattle.concept_unfold.specs.UnfoldingRules.{item_statements}
 use Rattle.concept_unfold.specs.Unfolded.{statements_of}
 use Rattle.concept_unfold.proofs.items.add_items.Given as goal
 
--- the rest of the items follows the rules behind some names, and makes the rest of the problem
+-- the rest of the items follow the variables, and make the rest of the problem
 abbrev pub invariant-loop-item : goal.invariant-loop-item
 invariant-loop-item l = record {
-  follows : (names : List (List ℕ)) × All (Contains names) l.problem.names × AllHold (items_rows names l.problem.names (map item_tree (drop l.item-index l.items)));
+  follows : ItemsFollow l.problem.names (map item_tree (drop l.item-index l.items));
   variables : l.problem.names ++ all_variables (map item_tree (drop l.item-index l.items)) ≡ all_variables (map item_tree l.items);
   statements : l.problem.statements ++ flat_map (statements_of (all_variables (map item_tree l.items))) (map item_tree (drop l.item-index l.items)) ≡ flat_map (statements_of (all_variables (map item_tree l.items))) (map item_tree l.items);
   equations : l.problem.equations ≡ [];

@@ -11,7 +11,7 @@ use Rattle.utopist_syntax.specs.FileTree.{body_expr_tree}
 use Rattle.concept_unfold.specs.Paths.{inputs_of, input_names}
 use Rattle.concept_unfold.specs.Bodies.{body_over}
 use Rattle.concept_unfold.specs.Unfolded.{var_number}
-use Rattle.concept_unfold.proofs.GoodBodies.{body_passes, fits_statement}
+use Rattle.concept_unfold.proofs.PlainBodies.{body_passes, fits_statement}
 use Rattle.concept_unfold.proofs.items.add_statement.Goals as goal
 
 pub add_statement-requires-clause-vars : goal.add_statement-requires-clause-vars

@@ -1,12 +1,8 @@
-use Rattle.std.proofs.Common.{◌+◌, ℕ, List, [], ◌∷◌, ◌++◌, drop, refl, ap, ◌∙◌}
+use Rattle.std.proofs.Common.{◌+◌, ℕ, List, [], ◌∷◌, ◌++◌, refl, ap, ◌∙◌}
 use Rattle.statement_set.specs.Problem.{Task}
-use Rattle.concept_unfold.specs.declared.fault.Rule.TheVariants as rule
-use Rattle.concept_unfold.specs.Declarations.{texts}
-use Rattle.concept_unfold.specs.Rows.{is_new}
-use Rattle.concept_unfold.specs.ConceptRules.{at_name, once_rows}
-use Rattle.concept_unfold.proofs.Names.{gathered_more}
-use Rattle.concept_unfold.proofs.Passing.{first_holds, rest_holds}
-use Rattle.concept_unfold.proofs.Progress.{once_here, name_step}
+use Rattle.name_sets.specs.Paths.{texts}
+use Rattle.concept_unfold.proofs.Following.{fresh_here}
+use Rattle.concept_unfold.proofs.Progress.{name_step, gathered_more}
 use Rattle.concept_unfold.proofs.Room.{room_for_one}
 use Rattle.concept_unfold.proofs.items.add_variables.Goals as goal
 
@@ -16,13 +12,7 @@ add_var-requires-clause-room c =
 
 pub add_var-requires-clause-fresh : goal.add_var-requires-clause-fresh
 add_var-requires-clause-fresh c =
-    let ns = c.args.names.now in
-    let i = c.loop-name.name-index in
-    let n = c.name-item.result in
-    let names = c.loop-name.problem.names in
-    rw c.text.ensures
-    (first_holds (at_name n rule.DuplicateName (is_new names n.text)) (once_rows rule.DuplicateName (names ++ n.text ∷ []) (drop (i + 1) ns))
-    (once_here rule.DuplicateName names ns i n c.loop-name-test.true c.name-item.is c.loop-name.invariant.fresh))
+    rw c.text.ensures (fresh_here c.loop-name.problem.names c.args.names.now c.loop-name.name-index c.name-item.result c.loop-name-test.true c.name-item.is c.loop-name.invariant.fresh).0
 
 pub loop-name-preserved : goal.loop-name-preserved
 loop-name-preserved c =
@@ -40,8 +30,5 @@ loop-name-preserved c =
     record {
       same = name_step start old new (old.names ++ n.text ∷ []) so_far.same added;
       names = gathered_more texts ns i n old.names new.names (n.text ∷ []) (start.names ++ texts ns) lt is refl so_far.names names;
-      fresh =
-          rw names
-          (rest_holds (at_name n rule.DuplicateName (is_new old.names n.text)) (once_rows rule.DuplicateName (old.names ++ n.text ∷ []) (drop (i + 1) ns))
-          (once_here rule.DuplicateName old.names ns i n lt is so_far.fresh));
+      fresh = rw names (fresh_here old.names ns i n lt is so_far.fresh).1;
     }

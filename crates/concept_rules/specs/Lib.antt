@@ -1,0 +1,13 @@
+pub mod Limits
+pub mod Paths
+pub mod Declarations
+pub mod Lineage
+pub mod Kinds
+pub mod Overlap
+pub mod PathRules
+pub mod BindRules
+pub mod BodyFault
+pub mod ItemRules
+pub mod ConceptRules
+pub mod Checks
+pub mod steps

@@ -1,0 +1,12 @@
+pub mod Spelt
+pub mod Places
+pub mod Prefixes
+pub mod Tries
+pub mod Edges
+pub mod Children
+pub mod Growing
+pub mod Walks
+pub mod Firsts
+pub mod Clashes
+pub mod Adding
+pub mod Finding

@@ -1,0 +1,9 @@
+use Rattle.std.proofs.Common.{take}
+use Rattle.name_sets.specs.Paths.{texts}
+use Rattle.name_sets.specs.steps.Nodes.{IsNodeAt, GrowsAlong}
+use Rattle.name_sets.proofs.trie.Trie.reach.Given as goal
+
+-- the node at the end of what was walked, and the nodes that came on the way
+abbrev pub invariant-loop-name : goal.invariant-loop-name
+invariant-loop-name l =
+    IsNodeAt l.self (take l.name-index (texts l.path)) l.node × GrowsAlong l.initial.self l.self (texts l.path)
