@@ -15,7 +15,7 @@ use Rattle.concept_rules.specs.declared.fault.UnfoldFault.TheVariants as fault
 use Rattle.concept_rules.specs.Checks.{Checks}
 use Rattle.concept_rules.specs.ConceptRules.{concept_fault, concepts_fault, computes_fault, file_fault}
 use Rattle.concept_rules.specs.steps.DeclaredNames.{Declared, is_same_item, item_in}
-use Rattle.concept_rules.specs.steps.LinesOf.{Lines}
+use Rattle.concept_rules.specs.Lineages.{Lines}
 use Rattle.concept_rules.specs.steps.Variables.{bound_by}
 use Rattle.concept_rules.specs.steps.Extent.{extent, no_concept, concept_of, checked_items, item_place, AreLines, Reached}
 use Rattle.concept_rules.proofs.Lines.{not_below}
@@ -31,6 +31,7 @@ no_lines : (all : List ConceptTree) → AreLines all 0 [] (record { names = []; 
 no_lines all = record {
   long = refl;
   even = refl;
+  order = refl;
   known = λ name. (λ h. absurd (cc), λ h. absurd (contains_none name h));
   names = λ n lt. absurd (omega (arith, lt));
   once = λ n m lt. absurd (omega (arith, lt));

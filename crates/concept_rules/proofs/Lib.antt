@@ -23,3 +23,4 @@ pub mod NextItem
 pub mod WholeConcept
 pub mod ConceptVerdict
 pub mod AllConcepts
+pub mod AllLineages

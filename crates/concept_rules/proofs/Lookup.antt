@@ -14,7 +14,7 @@ use Rattle.std.specs.Option.{option_map_or}
 use Rattle.concept_rules.specs.Declarations.{Variable, declaration, is_declared, variable_of, variable}
 use Rattle.concept_rules.specs.steps.Variables.{outline, bound_by}
 use Rattle.concept_rules.specs.steps.DeclaredNames.{Declared, items_declaring, item_in, bound_in}
-use Rattle.concept_rules.specs.steps.LinesOf.{Lines}
+use Rattle.concept_rules.specs.Lineages.{Lines}
 use Rattle.concept_rules.specs.steps.Extent.{Extent, item_place, item_standing, outline_standing, checked_items, Reached, IsHere}
 use Rattle.concept_rules.proofs.Items.{place_is}
 use Rattle.concept_rules.proofs.Finding.{found_in, missing_in}

@@ -14,7 +14,7 @@ use Rattle.concept_rules.specs.ConceptRules.{items_fault}
 use Rattle.concept_rules.specs.Checks.{Checks}
 use Rattle.concept_rules.specs.steps.DeclaredNames.{Declared, AreNewNames, HasMore, Binds}
 use Rattle.concept_rules.specs.steps.Variables.{bound_by}
-use Rattle.concept_rules.specs.steps.LinesOf.{Lines}
+use Rattle.concept_rules.specs.Lineages.{Lines}
 use Rattle.concept_rules.specs.steps.Extent.{extent, own_items, checked_items, item_place, IsApart, IsLine, IsHere, Reached, IsAfter}
 use Rattle.concept_rules.proofs.Among.{among}
 use Rattle.concept_rules.proofs.Items.{place_is}

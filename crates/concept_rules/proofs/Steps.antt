@@ -17,7 +17,7 @@ use Rattle.concept_rules.specs.PathRules.{broken_at}
 use Rattle.concept_rules.specs.declared.fault.Rule.TheVariants as rule
 use Rattle.concept_rules.specs.ConceptRules.{brings_name, brings_names, parent_fault, parents_fault, items_fault, concepts_fault}
 use Rattle.concept_rules.specs.steps.DeclaredNames.{Declared}
-use Rattle.concept_rules.specs.steps.LinesOf.{Lines}
+use Rattle.concept_rules.specs.Lineages.{Lines}
 use Rattle.concept_rules.specs.steps.Extent.{extent, concept_of, own_items, checked_items, IsApart, IsLine, Reached}
 
 -- a line that takes those that are left, after which it is as one that takes the whole

@@ -11,7 +11,7 @@ use Rattle.utopist_syntax.specs.FileTree.{ItemTree, ConceptTree}
 use Rattle.concept_rules.specs.Declarations.{is_among, is_declared}
 use Rattle.concept_rules.specs.Lineage.{concept_names, take_concept, all_items}
 use Rattle.concept_rules.specs.ConceptRules.{share_name, brings_name}
-use Rattle.concept_rules.specs.steps.LinesOf.{Lines}
+use Rattle.concept_rules.specs.Lineages.{Lines}
 use Rattle.concept_rules.specs.steps.Extent.{concept_of, own_items, IsApart, IsLine, AreLines}
 use Rattle.concept_rules.proofs.Lookup.{false_of}
 use Rattle.concept_rules.proofs.Sharing.{or_true, not_shared, declared_in}

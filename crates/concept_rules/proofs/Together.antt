@@ -14,7 +14,8 @@ use Rattle.concept_rules.specs.Declarations.{declaration, is_declared, names_of}
 use Rattle.concept_rules.specs.Lineage.{lineage}
 use Rattle.concept_rules.specs.ConceptRules.{share_name}
 use Rattle.concept_rules.specs.steps.DeclaredNames.{Declared}
-use Rattle.concept_rules.specs.steps.LinesOf.{Lines, StandTogether}
+use Rattle.concept_rules.specs.Lineages.{Lines}
+use Rattle.concept_rules.specs.steps.LinesOf.{StandTogether}
 use Rattle.concept_rules.specs.steps.Extent.{Extent, own_items, checked_items, Reached, IsHere, IsLine}
 use Rattle.concept_rules.proofs.Items.{declaration-append}
 use Rattle.concept_rules.proofs.Lines.{seen_below}

@@ -8,7 +8,7 @@ use Rattle.utopist_syntax.specs.FileTree.{ConceptTree}
 use Rattle.concept_rules.specs.Declarations.{is_among}
 use Rattle.concept_rules.specs.Lineage.{concept_names, lineage, all_items, effective_items}
 use Rattle.concept_rules.specs.steps.DeclaredNames.{Declared}
-use Rattle.concept_rules.specs.steps.LinesOf.{Lines}
+use Rattle.concept_rules.specs.Lineages.{Lines}
 use Rattle.concept_rules.specs.steps.Extent.{Extent, Reached, IsHere, IsLine}
 use Rattle.concept_rules.proofs.Lookup.{false_of}
 use Rattle.concept_rules.proofs.Lines.{line_here}

@@ -1,8 +1,9 @@
 -- A concept that was checked whole.
-use Rattle.std.proofs.Common.{◌≡◌, ◌↔◌, ◌⊎◌, ℕ, zero, suc, ◌+◌, ◌<◌, Bool, true, false, ◌||◌, nat_lt, nat_eq, List, [], ◌∷◌, ◌++◌, length, map, Some, None, refl, sym, ap, ◌∙◌, subst, ⊎_elim, inl, inr, All, IsTrue, arith}
+use Rattle.std.proofs.Common.{◌≡◌, ◌↔◌, ◌⊎◌, ℕ, zero, suc, ◌+◌, ◌<◌, Bool, true, false, ◌||◌, nat_lt, nat_eq, List, [], ◌∷◌, ◌++◌, length, map, reverse, Some, None, refl, sym, ap, ◌∙◌, subst, ⊎_elim, inl, inr, All, IsTrue, arith}
 use Rattle.std.specs.Prelude.{Contains, slice_get}
 use Rattle.std.specs.Str.{bytes_eq}
 use Rattle.std.proofs.lemmas.Bool.{lt-ltb}
+use Rattle.std.proofs.lemmas.Grind.{reverse_onto}
 use Rattle.std.proofs.lemmas.List.{take_all, map-append, length-append}
 use Rattle.std.proofs.lemmas.Option.{get_or_from_slice_get}
 use Rattle.std.proofs.lemmas.List.Elements.{All-contains, All-push, All-weaker, Contains-append_left, Contains-push, Contains-push_cases}
@@ -11,7 +12,7 @@ use Rattle.priz_base.proofs.More.{some_below}
 use Rattle.utopist_syntax.specs.FileTree.{ItemTree, ConceptTree}
 use Rattle.concept_rules.specs.Declarations.{is_among, is_declared}
 use Rattle.concept_rules.specs.Lineage.{concept_names, lineage, ancestors}
-use Rattle.concept_rules.specs.steps.LinesOf.{Lines}
+use Rattle.concept_rules.specs.Lineages.{Lines}
 use Rattle.concept_rules.specs.steps.Extent.{extent, concept_of, own_items, checked_items, IsApart, IsLine, AreLines}
 use Rattle.concept_rules.proofs.Lines.{seen_below, seen_last, not_below}
 use Rattle.concept_rules.proofs.Growing.{not_equal}
@@ -204,11 +205,18 @@ module _ (all : List ConceptTree) (n : ℕ) (before : List ConceptTree) (l : Lin
         h)
         (less_or_same i (length l.names))
 
+    order_next : more.names ≡ reverse (concept_names (c ∷ before))
+    order_next =
+        ap (λ (xs : List (List ℕ)). xs ++ text ∷ []) at.order
+        ∙ ap (λ (t : List ℕ). reverse (concept_names before) ++ t ∷ []) named
+        ∙ sym (reverse_onto (concept_names before) c.name.text [])
+
     -- with one more concept
     pub more_lines : AreLines all (n + 1) (c ∷ before) more
     more_lines = record {
       long = let e = at.long in omega (arith, e);
       even = let a = length-append l.names (text ∷ []) in let b = length-append l.lines (here ∷ []) in let e = at.even in omega (arith, a, b, e);
+      order = order_next;
       known = known_next;
       names = names_next;
       once = once_next;

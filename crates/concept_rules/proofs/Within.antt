@@ -13,7 +13,7 @@ use Rattle.concept_rules.specs.Lineage.{all_items}
 use Rattle.concept_rules.specs.ItemRules.{item_fault}
 use Rattle.concept_rules.specs.ConceptRules.{items_fault}
 use Rattle.concept_rules.specs.steps.DeclaredNames.{Declared}
-use Rattle.concept_rules.specs.steps.LinesOf.{Lines}
+use Rattle.concept_rules.specs.Lineages.{Lines}
 use Rattle.concept_rules.specs.steps.Extent.{extent, own_items, checked_items, IsApart, IsLine, IsHere, Reached}
 use Rattle.concept_rules.proofs.Lines.{seen_below, seen_last, items_of_line}
 use Rattle.concept_rules.proofs.Steps.{WithinItems}

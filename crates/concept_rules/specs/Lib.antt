@@ -2,6 +2,7 @@ pub mod Limits
 pub mod Paths
 pub mod Declarations
 pub mod Lineage
+pub mod Lineages
 pub mod Kinds
 pub mod Overlap
 pub mod PathRules

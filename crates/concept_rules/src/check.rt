@@ -1,17 +1,18 @@
-ghost use Rattle.std.specs.Prelude.{◌≡◌, ◌<◌, ◌+◌, ◌∷◌, [], length, ℕ, List, None, Contains, OnOk};
+ghost use Rattle.std.specs.Prelude.{◌≡◌, ◌<◌, ◌+◌, ◌∷◌, [], length, ℕ, List, None, Contains, IfOk, OnOk};
 ghost use Rattle.utopist_syntax.specs.FileTree.{ConceptTree, file_tree};
 ghost use Rattle.concept_rules.specs.Limits.{max_computes};
 ghost use Rattle.concept_rules.specs.ConceptRules.{concept_name_fault, concept_fault, file_fault};
 ghost use Rattle.concept_rules.specs.Checks.{Checks};
+ghost use Rattle.concept_rules.specs.Lineages.{AreLineages};
 ghost use Rattle.concept_rules.specs.steps.DeclaredNames.{item_in};
 ghost use Rattle.concept_rules.specs.steps.Extent.{extent, concept_of, AreLines, Reached};
 ghost use Rattle.concept_rules.specs.steps.Points.{AtEachConcept};
 
 use crate::computes::check_each_compute;
-use crate::concepts::Concepts;
 use crate::declarations::Declarations;
 use crate::fault::{Limit, ModelFault, Rule, UnfoldFault};
 use crate::kinds::Seen;
+use crate::lineages::Lineages;
 use crate::own_items::{Current, check_items};
 use crate::parents::line_of_parents;
 use crate::path_rules::broken_at;
@@ -22,20 +23,22 @@ const MAX_CONCEPTS: usize = 1024;
 
 const MAX_COMPUTES: usize = 64;
 
-/// Names the first rule of concepts that a file breaks, and where.
-pub fn check_concepts(alloc: Global, file: &File) -> Result<(), UnfoldFault>
-    ensures { Checks (file_fault max_computes (file_tree file.now)) result }
+/// Names the first rule of concepts that a file breaks, and where; else it answers the lineages of its concepts.
+pub fn check_concepts<'a>(alloc: Global, file: &File<'a>) -> Result<Lineages<'a>, UnfoldFault>
+    ensures rules { Checks (file_fault max_computes (file_tree file.now)) result }
+    ensures lineages { IfOk result (AreLineages (file_tree file.now).concepts) }
 {
     check_concepts_within(alloc, file, MAX_COMPUTES)
 }
 
 /// The same, where a file may have only so many compute statements.
-pub fn check_concepts_within(
+pub fn check_concepts_within<'a>(
     alloc: Global,
-    file: &File,
+    file: &File<'a>,
     most_computes: usize,
-) -> Result<(), UnfoldFault>
-    ensures { Checks (file_fault most_computes (file_tree file.now)) result }
+) -> Result<Lineages<'a>, UnfoldFault>
+    ensures rules { Checks (file_fault most_computes (file_tree file.now)) result }
+    ensures lineages { IfOk result (AreLineages (file_tree file.now).concepts) }
 {
     let concepts = file.concepts.as_slice();
     let mut found = Findings::new(alloc);
@@ -47,13 +50,14 @@ pub fn check_concepts_within(
         checked: &found.checked,
         declared: &found.declared,
     };
-    check_each_compute(&seen, file.computes.as_slice(), most_computes)
+    check_each_compute(&seen, file.computes.as_slice(), most_computes)?;
+    Ok(found.checked)
 }
 
 /// What was found of the concepts that were checked.
 #[derive(Drop)]
 struct Findings<'a> {
-    checked: Concepts<'a>,
+    checked: Lineages<'a>,
     declared: Declarations<'a>,
 }
 
@@ -64,7 +68,7 @@ impl<'a> Findings<'a> {
         ensures bound { result.declared.bound ≡ [] }
     {
         Findings {
-            checked: Concepts::new(alloc),
+            checked: Lineages::new(alloc),
             declared: Declarations::new(alloc),
         }
     }
@@ -104,7 +108,7 @@ fn check_concept<'a>(
     Ok(())
 }
 
-fn check_name(checked: &Concepts, name: &Name, which: usize) -> Result<(), ModelFault>
+fn check_name(checked: &Lineages, name: &Name, which: usize) -> Result<(), ModelFault>
     ensures rules { (all before : List ConceptTree) → AreLines all which before checked.now
         → result ≡ concept_name_fault before name.now }
     ensures few { OnOk result (which < 1024) }

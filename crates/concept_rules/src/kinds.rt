@@ -7,9 +7,9 @@ ghost use Rattle.concept_rules.specs.steps.Variables.{outline, outline_found};
 ghost use Rattle.concept_rules.specs.steps.Extent.{item_standing, outline_standing};
 ghost use Rattle.concept_rules.specs.steps.Points.{AtEachExtent, AtEachPoint};
 
-use crate::concepts::Concepts;
 use crate::declarations::{Declaration, Declarations};
 use crate::line::Line;
+use crate::lineages::Lineages;
 use name_sets::PathSet;
 use sqlite_items::at;
 use utopist_syntax::{Concept, Item, Name, VarKind};
@@ -18,7 +18,7 @@ use utopist_syntax::{Concept, Item, Name, VarKind};
 #[derive(Clone, Copy)]
 pub(crate) struct Seen<'s, 'a> {
     pub concepts: &'s [Concept<'a>],
-    pub checked: &'s Concepts<'a>,
+    pub checked: &'s Lineages<'a>,
     pub declared: &'s Declarations<'a>,
 }
 

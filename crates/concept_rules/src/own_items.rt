@@ -10,12 +10,12 @@ ghost use Rattle.concept_rules.specs.steps.DeclaredNames.{DeclaresAll};
 ghost use Rattle.concept_rules.specs.steps.Extent.{own_items, IsAfter};
 ghost use Rattle.concept_rules.specs.steps.Points.{AtEachItems};
 
-use crate::concepts::Concepts;
 use crate::declarations::{Declaration, Declarations};
 use crate::fault::UnfoldFault;
 use crate::item_rules::check_item;
 use crate::kinds::Seen;
 use crate::line::Line;
+use crate::lineages::Lineages;
 use priz_base::NoMem;
 use std::alloc::Global;
 use utopist_syntax::{Concept, Item, Name};
@@ -25,7 +25,7 @@ use utopist_syntax::{Concept, Item, Name};
 pub(crate) struct Current<'s, 'a> {
     pub concepts: &'s [Concept<'a>],
     pub which: usize,
-    pub checked: &'s Concepts<'a>,
+    pub checked: &'s Lineages<'a>,
     pub here: &'s Line,
 }
 

@@ -33,7 +33,7 @@ fn status(alloc: Global, bytes: &[u8]) -> u8
         return 2;
     };
     match check_concepts(alloc, &file) {
-        Ok(()) => 0,
+        Ok(_) => 0,
         Err(UnfoldFault::Model(_)) => 3,
         Err(UnfoldFault::NoMem) => 6,
     }

@@ -1,5 +1,5 @@
 -- How far a file was checked, and what is known of its extent.
-use Rattle.std.specs.Prelude.{◌≡◌, ◌<◌, ◌↔◌, ℕ, suc, true, if◌then◌else◌, nat_lt, nat_eq, List, [], ◌∷◌, map, length, take, get_or, slice_get, All, Contains, Option, Some, None, option_map, option_and_then, IsTrue}
+use Rattle.std.specs.Prelude.{◌≡◌, ◌<◌, ◌↔◌, ℕ, suc, true, if◌then◌else◌, nat_lt, nat_eq, List, [], ◌∷◌, map, length, take, reverse, get_or, slice_get, All, Contains, Option, Some, None, option_map, option_and_then, IsTrue}
 use Rattle.std.specs.List.{flat_map}
 use Rattle.std.specs.Option.{option_map_or}
 use Rattle.utopist_syntax.specs.FileTree.{ItemTree, ConceptTree, item_tree, concept_tree}
@@ -10,7 +10,7 @@ use Rattle.concept_rules.specs.Declarations.{is_among, declared, is_declared, va
 use Rattle.concept_rules.specs.declared.declarations.Declaration.{Declaration}
 use Rattle.concept_rules.specs.Lineage.{concept_names, lineage}
 use Rattle.concept_rules.specs.steps.DeclaredNames.{Declared, item_in, bound_in}
-use Rattle.concept_rules.specs.steps.LinesOf.{Lines}
+use Rattle.concept_rules.specs.Lineages.{Lines}
 use Rattle.concept_rules.specs.steps.Variables.{Outline, bound_by}
 
 -- the concepts of a file, how many were checked, the latest of these first,
@@ -72,6 +72,7 @@ pub record AreLines (all : List ConceptTree) (count : ℕ) (before : List Concep
     : Type 0 where
   pub long : length before ≡ count
   pub even : length l.names ≡ length l.lines
+  pub order : l.names ≡ reverse (concept_names before)
   pub known :
       (name : List ℕ) → IsTrue (is_among name (concept_names before)) ↔ Contains l.names name
   pub names : (n : ℕ) → n < count → Contains l.names (concept_of all n).name.text

@@ -1,11 +1,7 @@
 -- The concepts that were checked, with the numbers of those whose items they have.
 use Rattle.std.specs.Prelude.{◌≡◌, ℕ, List, slice_get, Some, Contains}
 use Rattle.priz_base.specs.Sets.{IsWithin}
-
--- their names, and the line of each
-pub record Lines : Type 0 where
-  pub names : List (List ℕ)
-  pub lines : List (List ℕ)
+use Rattle.concept_rules.specs.Lineages.{Lines}
 
 -- the line stands where the name does
 abbrev pub IsLineOf : Lines → List ℕ → List ℕ → Type 0

@@ -1,4 +1,4 @@
-ghost use Rattle.std.specs.Prelude.{◌≡◌, ◌∷◌, [], ◌++◌, ◌↔◌, ℕ, slice_get, Some, Contains, IsSome, IfSome, IsTrue, OnOk};
+ghost use Rattle.std.specs.Prelude.{◌≡◌, ◌∷◌, [], ◌++◌, ◌<◌, ◌↔◌, ℕ, length, slice_get, Some, Contains, IsSome, IfSome, IsTrue, OnOk};
 ghost use Rattle.concept_rules.specs.steps.LinesOf.{IsLineOf, StandTogether};
 
 use crate::line::Line;
@@ -8,19 +8,19 @@ use sqlite_items::Items;
 use std::alloc::Global;
 use std::marker::Model;
 
-/// The concepts that were checked: their names, and of each the concepts whose items it has.
-///
-/// Beside these, by the number of a concept, the place of the latest line that has it.
+/// The names of concepts, and of each the concepts whose items it has: its ancestors, and itself behind them. A concept
+/// has the number of its place in the file.
 #[derive(Drop)]
-pub(crate) struct Concepts<'a> {
+pub struct Lineages<'a> {
     names: NameSet<'a>,
     lines: Items<Line>,
+    /// By the number of a concept, the place of the latest line that has it.
     latest: Vec<usize>,
 }
 
-impl<'a> Model for Concepts<'a> {
+impl<'a> Model for Lineages<'a> {
     ghost use Rattle.std.specs.Prelude.{◌≤◌, length};
-    ghost use Rattle.concept_rules.specs.steps.LinesOf.{Lines};
+    ghost use Rattle.concept_rules.specs.Lineages.{Lines};
 
     ghost Value = { Lines };
 
@@ -29,11 +29,11 @@ impl<'a> Model for Concepts<'a> {
     ghost invariant = { λ c. length c.names ≤ length c.lines };
 }
 
-impl<'a> Concepts<'a> {
-    pub(crate) fn new(alloc: Global) -> Concepts<'a>
+impl<'a> Lineages<'a> {
+    pub(crate) fn new(alloc: Global) -> Lineages<'a>
         ensures { result ≡ record { names = []; lines = [] } }
     {
-        Concepts {
+        Lineages {
             names: NameSet::new(alloc),
             lines: Items::new(alloc),
             latest: Vec::new(alloc),
@@ -57,6 +57,22 @@ impl<'a> Concepts<'a> {
         ensures { IsTrue result ↔ Contains self.now.names name.now }
     {
         self.names.has(name)
+    }
+
+    /// The number of the concept of that name, if there is one.
+    pub fn number(&self, name: &str) -> Option<usize>
+        ensures found { IsSome result ↔ Contains self.now.names name.now }
+        ensures number { IfSome result (λ n. slice_get self.now.names n ≡ Some name.now) }
+    {
+        self.names.place(name)
+    }
+
+    /// The concepts whose items the concept of that number has.
+    pub fn line_of(&self, concept: usize) -> &[u32]
+        requires { concept < length self.now.lines }
+        ensures { slice_get self.now.lines concept ≡ Some result.now }
+    {
+        self.lines.as_slice()[concept].concepts()
     }
 
     /// The line of the concept of that name.
