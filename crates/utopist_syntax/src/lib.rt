@@ -21,6 +21,7 @@ mod print_path;
 mod print_tree;
 #[cfg(test)]
 mod tests;
+mod words;
 
 pub use compute::{Compute, GivenPath};
 pub use concept::Concept;
@@ -30,5 +31,9 @@ pub use fraction::print_fraction;
 pub use item::{Bind, Item, Part, VarKind};
 pub use name::Name;
 pub use path::Path;
+pub use pieces::{print_if, print_number, print_text};
+pub use position::Position;
+pub use print_compute::print_value;
 pub use print_file::print;
 pub use print_tree::print_expr;
+pub use words::{comparison, loop_word, operator, print_sub};

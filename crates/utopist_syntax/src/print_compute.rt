@@ -58,7 +58,8 @@ fn print_given(given: &GivenPath, out: &mut Vec<u8>) -> Result<(), NoMem>
     Ok(())
 }
 
-fn print_value(value: Option<Frac>, out: &mut Vec<u8>) -> Result<(), NoMem>
+/// Appends the value of what is given, behind ` = `, or nothing where there is none.
+pub fn print_value(value: Option<Frac>, out: &mut Vec<u8>) -> Result<(), NoMem>
     ensures { Prints (value_text value) result out.old.items out.new.items }
 {
     match value {

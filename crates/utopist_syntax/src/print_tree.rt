@@ -1,15 +1,15 @@
 #![tactic(auto, using(priz_base::proofs::Kept::kept))]
 
-ghost use Rattle.std.specs.Prelude.{◌≡◌, ◌++◌, codes};
+ghost use Rattle.std.specs.Prelude.{◌++◌, codes};
 ghost use Rattle.priz_base.specs.Printing.{Prints};
 ghost use Rattle.utopist_syntax.specs.View.{tree_of, trees_of};
-ghost use Rattle.utopist_syntax.specs.ExprText.{op_text, cmp_text, loop_text, text_at, args_text, out_text, sub_spelling, call_text, expr_text};
+ghost use Rattle.utopist_syntax.specs.ExprText.{text_at, args_text, call_text, expr_text};
 
 use crate::pieces::{print_if, print_number};
 use crate::position::Position;
 use crate::print_path::print_path;
+use crate::words::{comparison, loop_word, operator, print_sub};
 use crate::{Expr, Name};
-use body_lang::{Cmp, LoopKind, Op};
 use priz_base::NoMem;
 
 /// Appends an expression that stands alone.
@@ -58,7 +58,7 @@ fn print_at(position: Position, expr: &Expr, out: &mut Vec<u8>) -> Result<(), No
             second,
             each,
         } => {
-            print_head(word(*kind), name, out)?;
+            print_head(loop_word(*kind), name, out)?;
             print_part(b", ", Position::Alone, first.get(), out)?;
             print_part(b", ", Position::Alone, second.get(), out)?;
             print_part(b", ", Position::Alone, each.get(), out)?;
@@ -114,28 +114,6 @@ fn print_args(args: &[Expr], out: &mut Vec<u8>) -> Result<(), NoMem>
     Ok(())
 }
 
-// The number of a subtask, and which of its outputs is asked for.
-fn print_sub(k: i64, output: i64, out: &mut Vec<u8>) -> Result<(), NoMem>
-    ensures { Prints (sub_spelling k output) result out.old.items out.new.items }
-{
-    out.push(b'$')?;
-    print_number(k, out)?;
-    print_output(output, out)?;
-    Ok(())
-}
-
-// Which output is asked for, where it isn't the first.
-fn print_output(output: i64, out: &mut Vec<u8>) -> Result<(), NoMem>
-    ensures { Prints (out_text output) result out.old.items out.new.items }
-{
-    if output == 1 {
-        return Ok(());
-    }
-    out.push(b'.')?;
-    print_number(output, out)?;
-    Ok(())
-}
-
 // The word of a loop, and its name.
 fn print_head(word: &[u8], name: &Name, out: &mut Vec<u8>) -> Result<(), NoMem>
     ensures { Prints (word.now ++ (codes "(" ++ name.now.text)) result out.old.items out.new.items }
@@ -144,35 +122,4 @@ fn print_head(word: &[u8], name: &Name, out: &mut Vec<u8>) -> Result<(), NoMem>
     out.push(b'(')?;
     out.extend_from_slice(name.text().as_bytes())?;
     Ok(())
-}
-
-fn operator(op: Op) -> &'static [u8]
-    ensures { result.now ≡ op_text op }
-{
-    match op {
-        Op::Add => b" + ",
-        Op::Sub => b" - ",
-        Op::Mul => b" * ",
-        Op::Div => b" / ",
-    }
-}
-
-fn comparison(cmp: Cmp) -> &'static [u8]
-    ensures { result.now ≡ cmp_text cmp }
-{
-    match cmp {
-        Cmp::Less => b" < ",
-        Cmp::AtMost => b" <= ",
-        Cmp::Same => b" = ",
-    }
-}
-
-fn word(kind: LoopKind) -> &'static [u8]
-    ensures { result.now ≡ loop_text kind }
-{
-    match kind {
-        LoopKind::Sum => b"sum",
-        LoopKind::Prod => b"prod",
-        LoopKind::Iter => b"iter",
-    }
 }

@@ -1,0 +1,5 @@
+mod Joined
+pub mod Names
+pub mod Lines
+pub mod Counts
+pub mod Taken
