@@ -1,0 +1,4 @@
+pub mod SolvingStatements
+pub mod Examples
+pub mod Laws
+pub mod steps
