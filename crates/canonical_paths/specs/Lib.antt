@@ -1,0 +1,11 @@
+pub mod PathNames
+pub mod Canonical
+pub mod DeclaredPaths
+pub mod Scoped
+pub mod Limits
+pub mod Blocks
+pub mod Tables
+pub mod LaidOut
+pub mod Components
+pub mod Layouts
+pub mod steps
