@@ -108,6 +108,14 @@ impl Problem {
         Ok(())
     }
 
+    /// Takes the goal away, so that another can be added. Takes no memory.
+    pub fn clear_goal(&mut self, alloc: Global)
+        ensures { self.new ≡ record self.old { givens = []; wants = [] } }
+    {
+        self.givens = Items::new(alloc);
+        self.wants = Items::new(alloc);
+    }
+
     /// What holds of every problem.
     pub fn is_well_formed(&self)
         ensures { IsWellFormed self.now }
