@@ -1,0 +1,4 @@
+pub mod SegmentLimit
+pub mod PathLimits
+pub mod Extents
+pub mod steps
