@@ -77,7 +77,7 @@ its_item f (i ∷ items) p h =
     (Contains-append_cases (f i) (flat_map f items) p h)
 
 -- the effective items of each concept are scoped
-effective_scoped : (concepts : List ConceptTree) → ConceptsAreScoped concepts → (name : List ℕ) → AreScoped (reverse (effective_items concepts name))
+pub effective_scoped : (concepts : List ConceptTree) → ConceptsAreScoped concepts → (name : List ℕ) → AreScoped (reverse (effective_items concepts name))
 effective_scoped [] h name = tt
 effective_scoped (c ∷ earlier) h name = by (bytes_eq c.name.text name) refl (effective_scoped earlier h.1 name)
   where

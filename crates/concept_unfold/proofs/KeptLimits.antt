@@ -11,9 +11,11 @@ use Rattle.concept_rules.specs.declared.fault.Rule.TheVariants as rule
 use Rattle.concept_rules.specs.declared.fault.Limit.{Limit}
 use Rattle.concept_rules.specs.declared.fault.Limit.TheVariants as limit
 use Rattle.concept_rules.specs.PathRules.{broken_at}
-use Rattle.concept_unfold.specs.Limits.{max_variables, max_size, max_statements}
+use Rattle.concept_unfold.specs.Limits.{max_statements}
+use Rattle.concept_walk.specs.Limits.{max_variables, max_size}
 use Rattle.concept_unfold.specs.Declarations.{all_variables}
-use Rattle.concept_unfold.specs.UnfoldingRules.{item_size, item_statements, within_limit, limits_fault}
+use Rattle.concept_unfold.specs.UnfoldingRules.{item_size, item_statements, limits_fault}
+use Rattle.path_limits.specs.PathLimits.{within_limit}
 
 -- a count that ends at the type's last value tells whether there are more than the most
 pub over : (n most count : ℕ) → count ≡ min n (2 ^ 64 - 1) → most < count → nat_le n most ≡ false

@@ -12,7 +12,8 @@ use Rattle.statement_set.proofs.Lists.{all_left, all_right, all_of_map}
 use Rattle.utopist_syntax.specs.declared.item.Part.{Part}
 use Rattle.utopist_syntax.specs.declared.item.Item.{Item}
 use Rattle.utopist_syntax.specs.FileTree.{ItemTree, var, eq, rel, item_tree}
-use Rattle.concept_unfold.specs.Limits.{max_size, max_statements}
+use Rattle.concept_unfold.specs.Limits.{max_statements}
+use Rattle.concept_walk.specs.Limits.{max_size}
 use Rattle.concept_unfold.specs.Built.{IsBuiltItem}
 use Rattle.concept_unfold.specs.Paths.{input_in, inputs_of, IsOneOf}
 use Rattle.concept_unfold.specs.Declarations.{variables, all_variables}

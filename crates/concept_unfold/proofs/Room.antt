@@ -3,7 +3,7 @@ use Rattle.std.proofs.Common.{◌≡◌, ℕ, ◌+◌, ◌<◌, ◌≤◌, List,
 use Rattle.std.proofs.lemmas.List.{length-map}
 use Rattle.utopist_syntax.specs.Named.{Named}
 use Rattle.name_sets.specs.Paths.{texts}
-use Rattle.concept_unfold.specs.Limits.{max_variables}
+use Rattle.concept_walk.specs.Limits.{max_variables}
 
 -- where names are left, there is room for one
 pub room_for_one : (names start : List (List ℕ)) (ns : List Named) (i : ℕ) → i < length ns → names ++ texts (drop i ns) ≡ start ++ texts ns → length start + length ns ≤ max_variables → length names < max_variables

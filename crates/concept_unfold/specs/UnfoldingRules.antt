@@ -1,19 +1,20 @@
 -- The rules of unfolding: the limits of a problem, and no variable given twice; and all rules of a file.
-use Rattle.std.specs.Prelude.{ℕ, ◌+◌, List, [], ◌∷◌, ◌++◌, length, not, nat_le, Ok}
+use Rattle.std.specs.Prelude.{ℕ, ◌+◌, List, [], ◌∷◌, ◌++◌, length, not, Ok}
 use Rattle.std.specs.List.{sum_by}
 use Rattle.body_lang.specs.Verdicts.{Verdict, and_then, fault_unless}
 use Rattle.utopist_syntax.specs.Named.{Named}
 use Rattle.utopist_syntax.specs.declared.compute.Compute.{Compute}
 use Rattle.utopist_syntax.specs.FileTree.{ItemTree, var, eq, rel, FileTree}
 use Rattle.concept_rules.specs.declared.fault.Rule.TheVariants as rule
-use Rattle.concept_rules.specs.declared.fault.Limit.{Limit}
 use Rattle.concept_rules.specs.declared.fault.Limit.TheVariants as limit
 use Rattle.concept_rules.specs.declared.fault.ModelFault.{ModelFault}
 use Rattle.concept_rules.specs.Limits.{max_computes}
 use Rattle.concept_rules.specs.Declarations.{is_among}
 use Rattle.concept_rules.specs.PathRules.{broken_at}
 use Rattle.concept_rules.specs.ConceptRules.{file_fault}
-use Rattle.concept_unfold.specs.Limits.{max_paths, max_variables, max_size, max_statements}
+use Rattle.path_limits.specs.PathLimits.{within_limit}
+use Rattle.concept_unfold.specs.Limits.{max_paths, max_statements}
+use Rattle.concept_walk.specs.Limits.{max_variables, max_size}
 use Rattle.concept_unfold.specs.Paths.{inputs_of, given_names}
 use Rattle.concept_unfold.specs.Nodes.{body_nodes}
 use Rattle.concept_unfold.specs.Declarations.{all_variables, items_of}
@@ -29,10 +30,6 @@ abbrev pub item_statements : ItemTree → ℕ
 item_statements (var names kind binds) = 0
 item_statements (eq left right) = 0
 item_statements (rel name parts output body) = 1
-
--- the problem of a compute statement has no more than the most
-abbrev pub within_limit : Named → Limit → ℕ → ℕ → Verdict ModelFault
-within_limit n what most count = fault_unless (nat_le count most) (broken_at n (rule.TooMany what))
 
 -- the limits of a problem of these items, at the name of its compute statement; each declared path is a variable
 abbrev pub limits_fault : Named → List ItemTree → Verdict ModelFault

@@ -5,7 +5,8 @@ ghost use Rattle.utopist_syntax.specs.FileTree.{item_tree, body_expr_tree};
 ghost use Rattle.concept_unfold.specs.Paths.{inputs_of};
 ghost use Rattle.concept_unfold.specs.Nodes.{nodes, body_nodes};
 ghost use Rattle.concept_unfold.specs.Declarations.{variables, all_variables};
-ghost use Rattle.concept_unfold.specs.UnfoldingRules.{item_size, item_statements, within_limit, limits_fault};
+ghost use Rattle.concept_unfold.specs.UnfoldingRules.{item_size, item_statements, limits_fault};
+ghost use Rattle.path_limits.specs.PathLimits.{within_limit};
 
 use concept_rules::{Limit, ModelFault, Rule, broken_at};
 use utopist_syntax::{Expr, Item, Name, Part};

@@ -1,0 +1,16 @@
+pub mod Sublists
+pub mod VisitedPaths
+pub mod DotlessPaths
+pub mod DottedOnce
+pub mod WalkedNames
+pub mod VisitsAgain
+pub mod Bringing
+pub mod Dots
+pub mod Meeting
+pub mod Adding
+pub mod Parts
+pub mod Lines
+pub mod Variables
+pub mod Places
+pub mod Inside
+pub mod Outermost

@@ -1,0 +1,5 @@
+pub mod Visits
+pub mod Dotted
+pub mod Limits
+pub mod Walks
+pub mod steps
