@@ -3,7 +3,14 @@ pub mod VisitedPaths
 pub mod DotlessPaths
 pub mod DottedOnce
 pub mod WalkedNames
+pub mod PathsOfItems
+pub mod LeadingItems
+pub mod LeadingConcepts
+pub mod KeptItems
 pub mod VisitsAgain
+pub mod PathTypes
+pub mod NumericPaths
+pub mod WalkedPaths
 pub mod Bringing
 pub mod Dots
 pub mod Meeting

@@ -46,7 +46,7 @@ module _ (w : Walk) (h : IsWalk w) where
       found = nothing_found;
     })
 
-    -- and when they are brought, the whole_walk walk is found
+    -- and when they are brought, the whole walk is found
     pub outermost_found : (at : PathNames) → at ≡ [] → (new : Walked) → Bring w (component_visits w w.asked at) f new → AreFound w (whole_walk w) new
     outermost_found at e new brought =
         subst (λ (p : PathNames). Bring w (component_visits w w.asked p) f new) e brought [] [] (sym (append-nil (whole_walk w))) nothing_found

@@ -30,7 +30,7 @@ use Rattle.concept_walk.specs.Walks.{IsWalk, IsPathTo, IsPlace, concepts_of, con
 use Rattle.concept_walk.specs.steps.Bringing.{IsVariable, is_canonical, inside, component_visits, visits_of}
 
 -- along one path and then another
-along-append : (concepts : List ConceptTree) (kind : VarKind) (xs ys : List Named) → kind_along concepts kind (xs ++ ys) ≡ option_and_then (λ k. kind_along concepts k ys) (kind_along concepts kind xs)
+pub along-append : (concepts : List ConceptTree) (kind : VarKind) (xs ys : List Named) → kind_along concepts kind (xs ++ ys) ≡ option_and_then (λ k. kind_along concepts k ys) (kind_along concepts kind xs)
 along-append concepts kind [] ys = refl
 along-append concepts kind (x ∷ xs) ys = by (variable_in concepts kind x.text) (λ k. along-append concepts k xs ys)
   where
@@ -78,7 +78,7 @@ module _ (w : Walk) (h : IsWalk w) where
       pub number_in_table : number < length table
       number_in_table = let a = slice_get_within (paths_in w w.asked) number p at in let b = table_size in omega (arith, a, b)
 
-      entry : slice_get (paths_in w w.asked) (slice_index_or table number 0) ≡ Some (canonical_in (concepts_of w) (concept_in w w.asked) p)
+      pub entry : slice_get (paths_in w w.asked) (slice_index_or table number 0) ≡ Some (canonical_in (concepts_of w) (concept_in w w.asked) p)
       entry =
           let left = slice_get-map (slice_get (paths_in w w.asked)) table number ∙ ap (option_map (slice_get (paths_in w w.asked))) (slice_get-get_or table number 0 number_in_table) in
           let right = slice_get-map (λ q. Some (canonical_in (concepts_of w) (concept_in w w.asked) q)) (paths_in w w.asked) number ∙ ap (option_map (λ q. Some (canonical_in (concepts_of w) (concept_in w w.asked) q))) at in

@@ -2,10 +2,10 @@
 #![tactic(auto)]
 
 mod found;
-mod naming;
+mod laws;
 mod trail;
 mod walk;
 
 pub use found::{Met, Walked};
-pub use naming::walked_names_differ;
+pub use laws::{items_are_known, known_variables_are_walked, walked_names_differ};
 pub use walk::{Walk, walk_concept};

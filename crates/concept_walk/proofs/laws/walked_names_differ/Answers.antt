@@ -1,5 +1,5 @@
 use Rattle.concept_walk.proofs.WalkedNames.{names_differ}
-use Rattle.concept_walk.proofs.naming.walked_names_differ.Goals as goal
+use Rattle.concept_walk.proofs.laws.walked_names_differ.Goals as goal
 
 pub returns : goal.returns
 returns c = names_differ
